@@ -1,2 +1,3 @@
 mod EveryState
 mod Unlinked
+pub mod Shifted

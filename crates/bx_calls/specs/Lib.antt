@@ -12,3 +12,4 @@ pub mod Setups
 pub mod Said
 pub mod Shared
 pub mod Sending
+pub mod Shifting

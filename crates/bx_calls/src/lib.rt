@@ -12,6 +12,7 @@ mod net_seconds;
 mod net_state;
 mod outgoing;
 mod sending;
+pub mod shifting;
 pub mod timers;
 mod times;
 mod transition;

@@ -4,3 +4,6 @@ pub mod Counting
 pub mod Outcome
 pub mod LoadLemmas
 pub mod FirstFitStays
+pub mod FirstFitChanged
+pub mod SweepingAmong
+pub mod OutcomeAmong

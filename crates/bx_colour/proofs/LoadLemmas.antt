@@ -1,75 +1,85 @@
--- Sums of what is counted at moments.
-use Rattle.std.proofs.Common.{zero, suc, ◌≡◌, ◌≢◌, ℕ, ◌+◌, ◌<◌, ◌≤◌, Bool, true, false, cond, ltb, eqb, ◌&&◌, not, List, Option, Some, None, is_some, length, replicate, slice_index, slice_set, refl, sym, arith, inl, inr}
-use Rattle.std.specs.Prelude.{IfNone}
-use Rattle.std.proofs.lemmas.Bool.{cases_order}
+-- Moments that have come, counted, and what runs between starts and ends.
+use Rattle.std.proofs.Common.{zero, suc, ◌≡◌, ℕ, ◌+◌, ◌-◌, ◌<◌, ◌≤◌, Bool, true, false, cond, ◌&&◌, not, List, ◌++◌, Option, Some, None, is_some, length, take, drop, get_or, refl, ◌∙◌, ap, subst, arith, inl, inr}
+use Rattle.std.specs.Prelude.{IfNone, nat_le, sum_by}
+use Rattle.std.specs.List.Sorted.{IsNonDecreasing}
+use Rattle.std.proofs.lemmas.Bool.{cases_lt, cases_order}
 use Rattle.std.proofs.lemmas.Bool.Decides.{nat_tests}
-use Rattle.std.proofs.lemmas.List.{get_or-set_same, get_or-set_other}
+use Rattle.std.proofs.lemmas.List.{append-nil, drop_all, take_all}
+use Rattle.std.proofs.lemmas.List.Sums.{sum_by_more, sum_by-take-le, sum_by-le-sum_by, count_by-le-length}
 use Rattle.bx_base.specs.Sums.{sum_below}
-use Rattle.bx_base.proofs.SumLemmas.{sum_below-zero, sum_below-term, sum_below-next}
+use Rattle.bx_base.proofs.SumLemmas.{sum_below-next}
 use Rattle.bx_base.specs.Bookings.{Row, row_at, is_running}
 use Rattle.bx_colour.specs.Colouring.{is_in, running_at}
-use Rattle.bx_colour.specs.Counted.{counted_to}
+use Rattle.bx_colour.specs.Above.{IsFirstAbove}
+use Rattle.bx_colour.specs.Counted.{counted_to, running_between}
 
-before_none : (k : ℕ) → cond {A = ℕ} (ltb k 0) 1 0 ≡ 0
-before_none k = grind (arith, nat_tests)
+-- whether a moment has come by another, as a number
+abbrev pub come : ℕ → ℕ → ℕ
+come t s = cond {A = ℕ} (nat_le s t) 1 0
 
-same_place : (n : ℕ) → cond {A = ℕ} (eqb n n) 1 0 ≡ 1
-same_place n = grind (arith, nat_tests)
+come_most : (t s : ℕ) → come t s ≤ 1
+come_most t s = grind (arith, nat_tests)
 
-other_place : (k n : ℕ) → k ≢ n → cond {A = ℕ} (eqb k n) 1 0 ≡ 0
-other_place k n h = grind (arith, nat_tests)
+come_rises : (s t x : ℕ) → s ≤ t → come s x ≤ come t x
+come_rises s t x h = grind (arith, nat_tests)
 
-before_next : (k n : ℕ) → cond {A = ℕ} (ltb k (suc n)) 1 0 ≡ cond (ltb k n) 1 0 + cond (eqb k n) 1 0
-before_next k n = grind (arith, nat_tests)
+has_come : (t s : ℕ) → s ≤ t → come t s ≡ 1
+has_come t s h = grind (arith, nat_tests)
 
--- what stands at a place after one more was counted at k
-term : (counts : List ℕ) (k n : ℕ) → k < length counts → slice_index (slice_set counts k (slice_index counts k + 1)) n ≡ slice_index counts n + cond (eqb k n) 1 0
-term counts k n h = elim (cases_order k n) [
-  | inl e ↦ rw e (let at = get_or-set_same counts n (slice_index counts n + 1) 0 (omega (arith, h, e)) in omega (arith, at, same_place n))
-  | inr (inl less) ↦ (let other : k ≢ n = (λ e. omega (arith, e, less)) in let at = get_or-set_other counts k n (slice_index counts k + 1) 0 (λ e. other (sym e)) in omega (arith, at, other_place k n other))
-  | inr (inr more) ↦ (let other : k ≢ n = (λ e. omega (arith, e, more)) in let at = get_or-set_other counts k n (slice_index counts k + 1) 0 (λ e. other (sym e)) in omega (arith, at, other_place k n other))
+not_come : (t s : ℕ) → t < s → come t s ≡ 0
+not_come t s h = grind (arith, nat_tests)
+
+pub counted_most : (moments : List ℕ) (t : ℕ) → counted_to moments t ≤ length moments
+counted_most moments t = count_by-le-length (λ s. nat_le s t) moments
+
+pub counted_rises : (moments : List ℕ) (s t : ℕ) → s ≤ t → counted_to moments s ≤ counted_to moments t
+counted_rises moments s t h = sum_by-le-sum_by (come s) (come t) moments (λ x. come_rises s t x h)
+
+all_come : (moments : List ℕ) (t k : ℕ) → k ≤ length moments → ((j : ℕ) → j < k → get_or moments j 0 ≤ t) → sum_by (come t) (take k moments) ≡ k
+all_come moments t zero h each = refl
+all_come moments t (suc k) h each =
+    let here : sum_by (come t) (take (k + 1) moments) ≡ k + 1 = omega (arith, all_come moments t k (omega arith) (λ j l. each j (omega arith)), sum_by_more (come t) moments k 0 (omega arith), has_come t (get_or moments k 0) (each k (omega arith))) in
+    let e : k + 1 ≡ suc k = omega arith in
+    subst (λ (n : ℕ). sum_by (come t) (take n moments) ≡ n) e here
+
+at_most : (moments : List ℕ) (t k : ℕ) → k ≤ length moments → sum_by (come t) (take k moments) ≤ k
+at_most moments t zero h = omega arith
+at_most moments t (suc k) h =
+    let here : sum_by (come t) (take (k + 1) moments) ≤ k + 1 = omega (arith, at_most moments t k (omega arith), sum_by_more (come t) moments k 0 (omega arith), come_most t (get_or moments k 0)) in
+    let e : k + 1 ≡ suc k = omega arith in
+    subst (λ (n : ℕ). sum_by (come t) (take n moments) ≤ n) e here
+
+none_more : (moments : List ℕ) (t i m : ℕ) → i + m ≤ length moments → ((j : ℕ) → i ≤ j → j < i + m → t < get_or moments j 0) → sum_by (come t) (take (i + m) moments) ≤ i
+none_more moments t i zero h each =
+    let here = at_most moments t i (omega arith) in
+    let e : i ≡ i + zero = omega arith in
+    subst (λ (n : ℕ). sum_by (come t) (take n moments) ≤ i) e here
+none_more moments t i (suc m) h each =
+    let here : sum_by (come t) (take (i + m + 1) moments) ≤ i = omega (arith, none_more moments t i m (omega arith) (λ j a b. each j a (omega arith)), sum_by_more (come t) moments (i + m) 0 (omega arith), not_come t (get_or moments (i + m) 0) (each (i + m) (omega arith) (omega arith))) in
+    let e : i + m + 1 ≡ i + suc m = omega arith in
+    subst (λ (n : ℕ). sum_by (come t) (take n moments) ≤ i) e here
+
+-- of moments that do not fall: as many have come as stand up to one that has
+pub come_up_to : (moments : List ℕ) (i t : ℕ) → IsNonDecreasing moments → i < length moments → get_or moments i 0 ≤ t → i + 1 ≤ counted_to moments t
+come_up_to moments i t rising h here =
+    omega (arith, all_come moments t (i + 1) (omega arith) (λ j l. (let le = rising j i 0 (omega arith) h in omega (arith, le, here))), sum_by-take-le (come t) moments (i + 1))
+
+-- and none from one on that has not
+pub come_before : (moments : List ℕ) (i t : ℕ) → IsNonDecreasing moments → i < length moments → t < get_or moments i 0 → counted_to moments t ≤ i
+come_before moments i t rising h here =
+    let all = none_more moments t i (length moments - i) (omega arith) (λ j a b. (let le = rising i j 0 a (omega arith) in omega (arith, le, here))) in
+    subst (λ (xs : List ℕ). sum_by (come t) xs ≤ i) (take_all (i + (length moments - i)) moments (omega arith)) all
+
+-- where more have come than stand before one, that one has
+pub has_started : (moments : List ℕ) (i t : ℕ) → IsNonDecreasing moments → i < length moments → i + 1 ≤ counted_to moments t → get_or moments i 0 ≤ t
+has_started moments i t rising h many = elim (cases_lt t (get_or moments i 0)) [
+  | inl later ↦ absurd (let few = come_before moments i t rising h later in omega (arith, few, many))
+  | inr now ↦ now
 ]
 
--- one more at a place is one more in each sum beyond it
-pub one_more : (n : ℕ) (counts : List ℕ) (k : ℕ) → k < length counts
-    → sum_below n (λ s. slice_index (slice_set counts k (slice_index counts k + 1)) s) ≡ sum_below n (λ s. slice_index counts s) + cond (ltb k n) 1 0
-one_more zero counts k h = omega (arith, before_none k)
-one_more (suc n) counts k h = omega (arith, one_more n counts k h, term counts k n h, before_next k n)
-
-pub counted_more : (counts : List ℕ) (k t : ℕ) → k < length counts → counted_to (slice_set counts k (slice_index counts k + 1)) t ≡ counted_to counts t + cond (ltb k (t + 1)) 1 0
-counted_more counts k t h = one_more (t + 1) counts k h
-
--- no one place has more than were counted
-pub counted_one : (counts : List ℕ) (k : ℕ) → slice_index counts k ≤ counted_to counts k
-counted_one counts k = sum_below-term (k + 1) (λ s. slice_index counts s) k (omega arith)
-
-none_at : (n s : ℕ) → slice_index (replicate n 0) s ≡ 0
-none_at zero s = refl
-none_at (suc n) zero = refl
-none_at (suc n) (suc s) = none_at n s
-
-pub counted_none : (n t : ℕ) → counted_to (replicate n 0) t ≡ 0
-counted_none n t = sum_below-zero (t + 1) (λ s. slice_index (replicate n 0) s) (λ s h. none_at n s)
-
-pub counted_next : (counts : List ℕ) (t : ℕ) → counted_to counts t ≡ sum_below t (λ s. slice_index counts s) + slice_index counts t
-counted_next counts t = sum_below-next t (λ s. slice_index counts s)
-
--- a booking that has ended has started
-pub ends_later : (start end t : ℕ) → start < end → cond {A = ℕ} (ltb end (t + 1)) 1 0 ≤ cond (ltb start (t + 1)) 1 0
-ends_later start end t h = grind (arith, nat_tests)
-
-pub few_ends : (start t : ℕ) → cond {A = ℕ} (ltb start (t + 1)) 1 0 ≤ 1
-few_ends start t = grind (arith, nat_tests)
-
-pub all_over : (k t : ℕ) → k ≤ t → cond {A = ℕ} (ltb k (t + 1)) 1 0 ≡ 1
-all_over k t h = grind (arith, nat_tests)
-
--- one runs where it has started and has not ended
-pub runs_between : (row : Row) (start end t : ℕ) → start ≡ row.start → end ≡ row.end → row.start < row.end → cond {A = ℕ} (is_running row t) 1 0 + cond (ltb end (t + 1)) 1 0 ≡ cond (ltb start (t + 1)) 1 0
-runs_between row start end t first last h = rw (first, last) (between row t h)
-  where
-    between : (row : Row) (t : ℕ) → row.start < row.end → cond {A = ℕ} (is_running row t) 1 0 + cond (ltb row.end (t + 1)) 1 0 ≡ cond (ltb row.start (t + 1)) 1 0
-    between row t h = grind (arith, nat_tests)
+-- a list that is written whole
+pub refilled : (before after : List ℕ) → length after ≡ length before → take (length before) (after ++ drop (length after) before) ≡ after
+refilled before after e = ap (λ zs. take (length before) (after ++ zs)) (drop_all (length after) before (omega (arith, e))) ∙ ap (take (length before)) (append-nil after) ∙ take_all (length before) after (omega (arith, e))
 
 -- the first of two firsts is the other
 pub one_first : (above : ℕ → ℕ) (limit m t : ℕ) → limit < above m → ((s : ℕ) → s < m → above s ≤ limit) → limit < above t → ((s : ℕ) → s < t → above s ≤ limit) → m ≡ t
@@ -78,6 +88,14 @@ one_first above limit m t here none there before = elim (cases_order m t) [
   | inr (inl less) ↦ absurd (let h = before m less in omega (arith, h, here))
   | inr (inr more) ↦ absurd (let h = none t more in omega (arith, h, there))
 ]
+
+-- what runs at a start above the limit, where none before it is, is the first
+pub first_found : (starts ends : List ℕ) (limit index ended : ℕ) → IsNonDecreasing starts → index < length starts → ended ≡ counted_to ends (get_or starts index 0) → ended + limit ≤ index
+    → ((s : ℕ) → counted_to starts s ≤ index → running_between starts ends s ≤ limit) → IsFirstAbove starts ends limit (get_or starts index 0)
+first_found starts ends limit index ended rising within e above none =
+    let m = get_or starts index 0 in
+    let come_by_now = come_up_to starts index m rising within (omega arith) in
+    (omega (arith, come_by_now, e, above), λ s h. none s (come_before starts index s rising within h))
 
 -- a row more, of those that are marked
 pub add_marked : (rows : List Row) (marked : ℕ → Bool) (n t : ℕ) (b : Bool) (before after : ℕ) → marked n ≡ b

@@ -1,7 +1,10 @@
--- What is counted at moments.
-use Rattle.std.specs.Prelude.{ℕ, ◌+◌, List, slice_index}
-use Rattle.bx_base.specs.Sums.{sum_below}
+-- Moments that have come, and what runs between starts and ends.
+use Rattle.std.specs.Prelude.{ℕ, ◌-◌, List, sum_by, nat_le, if◌then◌else◌}
 
--- how many were counted up to a moment, itself among them
+-- how many of these moments have come by a moment, itself among them
 abbrev pub counted_to : List ℕ → ℕ → ℕ
-counted_to counts moment = sum_below (moment + 1) (λ s. slice_index counts s)
+counted_to moments moment = sum_by (λ s. if nat_le s moment then 1 else 0) moments
+
+-- how many have started by a moment, less those that have ended
+abbrev pub running_between : List ℕ → List ℕ → ℕ → ℕ
+running_between starts ends moment = counted_to starts moment - counted_to ends moment

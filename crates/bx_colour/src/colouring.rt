@@ -43,7 +43,7 @@ pub fn colour(
 }
 
 /// No channel for any of so many bookings.
-fn none_given(alloc: Global, count: u16) -> Result<Vec<Option<Channel>>, AllocError>
+pub(crate) fn none_given(alloc: Global, count: u16) -> Result<Vec<Option<Channel>>, AllocError>
     ensures { IfOk result (λ v. v.items ≡ replicate count None) }
 {
     vec![in alloc; None; count as usize]

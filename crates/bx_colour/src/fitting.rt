@@ -7,7 +7,7 @@ use crate::load::Load;
 use bx_base::{Bookings, ChannelSet};
 
 /// Whether there is one mark for each booking, and at no moment more accepted bookings run than there are channels.
-/// Takes no memory but that of a `Load`, and time linear in the bookings and in the seconds of the day.
+/// Takes no memory but that of a `Load`, and time n log n in the bookings.
 pub fn fits(bookings: &Bookings, accepted: &[bool], channels: ChannelSet) -> bool
     ensures { IsTrue result ↔ FitsChannels bookings.now accepted.now channels }
 {

@@ -1,6 +1,7 @@
 //! Channels for accepted bookings, first fit in the order of their starts.
 #![tactic(auto)]
 
+mod beside;
 mod colouring;
 mod fitting;
 pub mod laws;
@@ -8,6 +9,7 @@ mod load;
 mod order;
 mod sweep;
 
+pub use beside::{NoColouring, colour_beside};
 pub use colouring::colour;
 pub use fitting::fits;
-pub use load::Load;
+pub use load::{Load, MAX_LOAD};

@@ -54,6 +54,7 @@ Rests m start _ = ⊥
 -- a booking of both plans, on its channel unless it rests
 pub record IsSeat (m : ℕ) (e n : Entry) : Type 0 where
   pub row : n.row ≡ e.row
+  pub reference : n.reference ≡ e.reference
   pub start : n.booking.start ≡ e.booking.start
   pub end : n.booking.end ≡ e.booking.end
   pub number : n.booking.number ≡ e.booking.number
@@ -88,7 +89,7 @@ holds_seat m c e n h = elim h.place [
   | inr r ↦ ap (λ b. b && (n.channel == c)) (rests_unheld m e.booking.start e.standing r) ∙ sym (ap (λ b. b && (e.channel == c)) (rests_unheld m e.booking.start e.standing r))
 ]
 
-none_held : (m c : ℕ) (ns : List Entry) → AllByRecursion (IsToCome m) ns → is_held ns c ≡ false
+pub none_held : (m c : ℕ) (ns : List Entry) → AllByRecursion (IsToCome m) ns → is_held ns c ≡ false
 none_held m c [] h = refl
 none_held m c (n ∷ ns) h = ap₂ (λ x y. (x && (n.channel == c)) || y) (rests_unheld m n.booking.start n.standing h.0.rests) (none_held m c ns h.1)
 
@@ -110,12 +111,12 @@ waits_of start end inward number row channel t back free =
 
 waits_seat : (m : ℕ) (e n : Entry) (s : Standing) (t : ℕ) (back free : Bool) → IsSeat m e n → n.channel ≡ e.channel → waits (with_standing n s) t back free ≡ waits e t back free
 waits_seat m e n s t back free h q =
-    ap (λ x. waits_of x n.booking.end n.booking.inward n.booking.number n.row n.channel t back free) h.start
-    ∙ ap (λ x. waits_of e.booking.start x n.booking.inward n.booking.number n.row n.channel t back free) h.end
-    ∙ ap (λ x. waits_of e.booking.start e.booking.end x n.booking.number n.row n.channel t back free) h.inward
-    ∙ ap (λ x. waits_of e.booking.start e.booking.end e.booking.inward x n.row n.channel t back free) h.number
-    ∙ ap (λ x. waits_of e.booking.start e.booking.end e.booking.inward e.booking.number x n.channel t back free) h.row
-    ∙ ap (λ x. waits_of e.booking.start e.booking.end e.booking.inward e.booking.number e.row x t back free) q
+    ap (λ x. waits_of x n.booking.end n.booking.inward n.booking.number n.reference n.channel t back free) h.start
+    ∙ ap (λ x. waits_of e.booking.start x n.booking.inward n.booking.number n.reference n.channel t back free) h.end
+    ∙ ap (λ x. waits_of e.booking.start e.booking.end x n.booking.number n.reference n.channel t back free) h.inward
+    ∙ ap (λ x. waits_of e.booking.start e.booking.end e.booking.inward x n.reference n.channel t back free) h.number
+    ∙ ap (λ x. waits_of e.booking.start e.booking.end e.booking.inward e.booking.number x n.channel t back free) h.reference
+    ∙ ap (λ x. waits_of e.booking.start e.booking.end e.booking.inward e.booking.number e.reference x t back free) q
 
 second_seat : (m : ℕ) (link : Link) (e n : Entry) (x : Standing) (t : ℕ) (back free : Bool) (s : Standing) → IsSeat m e n → n.channel ≡ e.channel → second_by link (with_standing n x) t back free s ≡ second_by link e t back free s
 second_seat m Up e n x t back free (OnCall c a) h q = ap (λ k. follows a t (net_second c t k)) h.end
@@ -127,10 +128,10 @@ second_seat m link e n x t back free s h q = refl
 -- nothing, where it starts later
 waits_still : (e : Entry) (t : ℕ) (back free : Bool) → t < e.booking.start → e.booking.start < e.booking.end → waits e t back free ≡ stays Unoffered
 waits_still e t back free before order =
-    ap (λ b. if (b && nat_lt t e.booking.end) && not e.booking.inward && free then becomes (OnCall (net_offered e.row e.channel e.booking.number back t) Never) (Some (setup_of e.row e.channel e.booking.number)) else if nat_le e.booking.end t then stays Missed else stays Unoffered) (late e.booking.start t before)
+    ap (λ b. if (b && nat_lt t e.booking.end) && not e.booking.inward && free then becomes (OnCall (net_offered e.reference e.channel e.booking.number back t) Never) (Some (setup_of e.reference e.channel e.booking.number)) else if nat_le e.booking.end t then stays Missed else stays Unoffered) (late e.booking.start t before)
     ∙ ap (λ b. if b then stays Missed else stays Unoffered) (late e.booking.end t (omega (arith, before, order)))
 
-second_still : (m : ℕ) (link : Link) (e : Entry) (t : ℕ) (back free : Bool) (s : Standing) → t < m → Rests m e.booking.start s → e.booking.start < e.booking.end → second_by link e t back free s ≡ stays s
+pub second_still : (m : ℕ) (link : Link) (e : Entry) (t : ℕ) (back free : Bool) (s : Standing) → t < m → Rests m e.booking.start s → e.booking.start < e.booking.end → second_by link e t back free s ≡ stays s
 second_still m Up e t back free Refused early h order = refl
 second_still m Up e t back free Unoffered early h order = waits_still e t back free (omega (arith, early, h)) order
 second_still m Down e t back free Refused early h order = refl
@@ -139,10 +140,10 @@ second_still m link e t back free s early h order = absurd h
 
 -- ---- a second before m, of a whole day
 
-abbrev say : Bool → Option Outgoing → List Outgoing → List Outgoing
+abbrev pub say : Bool → Option Outgoing → List Outgoing → List Outgoing
 say b o rest = if b then cons_some o rest else rest
 
-silent : (b : Bool) (rest : List Outgoing) → say b None rest ≡ rest
+pub silent : (b : Bool) (rest : List Outgoing) → say b None rest ≡ rest
 silent true rest = refl
 silent false rest = refl
 
@@ -178,6 +179,7 @@ module _ (m : ℕ) (link : Link) (d : Day) (ns : List Entry) (seats : AreSeats m
   seats_after (e ∷ es) (x ∷ xs) h = (
     record {
       row = h.0.row;
+      reference = h.0.reference;
       start = h.0.start;
       end = h.0.end;
       number = h.0.number;
@@ -248,7 +250,7 @@ passed_over m link d ns seats early = record {
   seats = seats_after m link d ns seats early d.entries ns seats;
 }
 
-both : {X : Type 0} (b : Bool) (x y x' y' : X) (R : X → X → Type 0) → R x x' → R y y' → R (if b then x else y) (if b then x' else y')
+pub both : {X : Type 0} (b : Bool) (x y x' y' : X) (R : X → X → Type 0) → R x x' → R y y' → R (if b then x else y) (if b then x' else y')
 both true x y x' y' R f g = f
 both false x y x' y' R f g = g
 
@@ -302,6 +304,7 @@ seats_set m (e ∷ es) [] i s h q = absurd h
 seats_set m (e ∷ es) (n ∷ ns) zero s h q = (
   record {
     row = h.0.row;
+    reference = h.0.reference;
     start = h.0.start;
     end = h.0.end;
     number = h.0.number;
@@ -488,7 +491,7 @@ read_later : (d : Day) (r : Result PlainMessage MessageFault) → Later d (recei
 read_later d (Err fault) = omega arith
 read_later d (Ok pm) = from_later d pm pm.reference
 
-event_later : (d : Day) (e : LiveEvent) → Later d (live_happens d e).day
+pub event_later : (d : Day) (e : LiveEvent) → Later d (live_happens d e).day
 event_later d (OnLink Tick) = by_cases (nat_le 300000 d.moment) _ _ (λ (x : Sent Day). Later d x.day) (λ _. omega arith) (λ _. omega arith)
 event_later d (OnLink (Receive octets)) = read_later d (message_at octets)
 event_later d WithoutLink = by_cases (nat_le 300000 d.moment) _ _ (Later d) (λ _. omega arith) (λ _. omega arith)

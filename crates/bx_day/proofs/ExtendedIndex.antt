@@ -21,7 +21,7 @@ use Rattle.bx_day.specs.Outlasting.{AreEarliest}
 use Rattle.bx_day.specs.Reading.{IsExchange, Seated}
 use Rattle.bx_day.specs.Slots.{slot_at, AreSlots}
 use Rattle.bx_day.proofs.Extended.{Rests, IsSeat, IsToCome, AreSeats, holds_seat, rests_unheld, at_over}
-use Rattle.bx_day.proofs.Law.{IsFrame, frame_of}
+use Rattle.bx_day.proofs.Law.{IsFrame, frame_of, reference_of_entry}
 use Rattle.bx_day.proofs.LiveTurns.{pairs_at}
 use Rattle.bx_day.proofs.LongerPlan.{seats_from, to_come_of}
 use Rattle.bx_day.proofs.Once.{each_at}
@@ -44,13 +44,13 @@ past_standings (e ∷ es) [] i le past = absurd (omega (arith, le))
 past_standings (e ∷ es) (n ∷ ns) zero le past = absurd (omega (arith, past))
 past_standings (e ∷ es) (n ∷ ns) (suc i) le past = past_standings es ns i (omega (arith, le)) (omega (arith, past))
 
-pairs_from : (R : Entry → Entry → Type 0) (es : List Entry) → ((i j : ℕ) → i < j → j < length es → R (entry_at es i) (entry_at es j)) → Pairs R es
+pub pairs_from : (R : Entry → Entry → Type 0) (es : List Entry) → ((i j : ℕ) → i < j → j < length es → R (entry_at es i) (entry_at es j)) → Pairs R es
 pairs_from R [] h = tt
 pairs_from R (e ∷ es) h = (all_from (R e) es (λ j lt. h 0 (suc j) (omega arith) (omega (arith, lt))), pairs_from R es (λ i j less lt. h (suc i) (suc j) (omega (arith, less)) (omega (arith, lt))))
 
 -- ---- of one booking
 
-not_back : (a r : Bool) → a ≡ not r → r ≡ not a
+pub not_back : (a r : Bool) → a ≡ not r → r ≡ not a
 not_back true true h = absurd (true≢false h)
 not_back false false h = absurd (false≢true h)
 not_back a r h = refl
@@ -64,11 +64,12 @@ waiting_rests m start Unoffered h after = after
 waiting_rests m start s h after = absurd (false≢true h)
 
 seat_kept : (t k : ℕ) (e : Entry) (b : Row) (a : Option ℕ) → e.row ≡ k → e.booking.start < e.booking.end → (is_refused e.standing ≡ false → t < e.booking.start → is_unoffered e.standing ≡ true) → IsKeptRow t e b a → IsSeat (t + 1) e (entry_of k b a)
-seat_kept t k e b None row order ahead h = record { row = sym row; start = h.same.start; end = h.same.end; number = h.same.number; inward = h.same.inward; order = order; place = inr (refused_rests (t + 1) e.booking.start e.standing (not_back false (is_refused e.standing) h.accepted)) }
+seat_kept t k e b None row order ahead h = record { row = sym row; reference = sym (h.reference ∙ row); start = h.same.start; end = h.same.end; number = h.same.number; inward = h.same.inward; order = order; place = inr (refused_rests (t + 1) e.booking.start e.standing (not_back false (is_refused e.standing) h.accepted)) }
 seat_kept t k e b (Some c) row order ahead h =
     let accepted : is_refused e.standing ≡ false = not_back true (is_refused e.standing) h.accepted in
     record {
       row = sym row;
+      reference = sym (h.reference ∙ row);
       start = h.same.start;
       end = h.same.end;
       number = h.same.number;
@@ -84,16 +85,16 @@ frame_kept : (t k : ℕ) (e : Entry) (b : Row) (a : Option ℕ) → IsKeptRow t 
 frame_kept t k e b None h = record { booking = refl; channel = refl; accepted = not_back false (is_refused e.standing) h.accepted }
 frame_kept t k e b (Some c) h = record { booking = refl; channel = refl; accepted = not_back true (is_refused e.standing) h.accepted }
 
-fits_new : (t k : ℕ) (b : Row) (a : Option ℕ) → t < b.end → EntryFits t (entry_of k b a)
+pub fits_new : (t k : ℕ) (b : Row) (a : Option ℕ) → t < b.end → EntryFits t (entry_of k b a)
 fits_new t k b None h = tt
 fits_new t k b (Some c) h = h
 
-waits_new : (k : ℕ) (b : Row) (a : Option ℕ) → is_refused (entry_of k b a).standing ≡ false → is_unoffered (entry_of k b a).standing ≡ true
+pub waits_new : (k : ℕ) (b : Row) (a : Option ℕ) → is_refused (entry_of k b a).standing ≡ false → is_unoffered (entry_of k b a).standing ≡ true
 waits_new k b None h = absurd (true≢false h)
 waits_new k b (Some c) h = refl
 
-origin_seat : (m : ℕ) (e n : Entry) (reference : ℕ) (o : NetOrigin) → IsSeat m e n → OriginFits e.row e.booking reference o → OriginFits n.row n.booking reference o
-origin_seat m e n reference (Outward called) h k = (h.inward ∙ k.0, k.1 ∙ sym h.row)
+origin_seat : (m : ℕ) (e n : Entry) (reference : ℕ) (o : NetOrigin) → IsSeat m e n → OriginFits e.reference e.booking reference o → OriginFits n.reference n.booking reference o
+origin_seat m e n reference (Outward called) h k = (h.inward ∙ k.0, k.1 ∙ sym h.reference)
 origin_seat m e n reference Inward h k = h.inward ∙ k
 
 phase_seat : (m t : ℕ) (e n : Entry) (p : Phase) → IsSeat m e n → PhaseFits t e.booking p → PhaseFits t n.booking p
@@ -109,7 +110,7 @@ activity_seat m t e n p a h k = absurd k
 
 -- a seat of a booking whose standing does not matter
 bare : (m : ℕ) (e n : Entry) (c : PlainNetCall) (a : Activity) → IsSeat m (with_standing e (OnCall c a)) n → IsSeat m e n
-bare m e n c a h = record { row = h.row; start = h.start; end = h.end; number = h.number; inward = h.inward; order = h.order; place = elim h.place [ inl q ↦ inl q | inr rests ↦ absurd rests ] }
+bare m e n c a h = record { row = h.row; reference = h.reference; start = h.start; end = h.end; number = h.number; inward = h.inward; order = h.order; place = elim h.place [ inl q ↦ inl q | inr rests ↦ absurd rests ] }
 
 fits_seat : (m t : ℕ) (e n : Entry) (s : Standing) → IsSeat m (with_standing e s) n → EntryFits t (with_standing e s) → EntryFits t (with_standing n s)
 fits_seat m t e n Unoffered h k = omega (arith, k, h.end)
@@ -225,12 +226,22 @@ module _ (d : Day) (rows : List Row) (channels : List Bool) (assigned : List (Op
         | inr new ↦ ap (λ (e : Entry). e.row) (past_standings d.entries news i fewer new) ∙ named
       ]
 
+  reference_at_place : (i : ℕ) → i < length all → (entry_at all i).reference ≡ i + 1
+  reference_at_place i inside =
+      let lt : i < length rows = omega (arith, inside, size) in
+      let named = ap (λ (e : Entry). e.reference) (new_at i lt) ∙ reference_of_entry (i + 1) (row_at rows i) (slice_index_or assigned i None) in
+      elim (cases_lt i (length d.entries)) [
+        | inl old ↦ ap (λ (e : Entry). e.reference) (old_at i old) ∙ named
+        | inr new ↦ ap (λ (e : Entry). e.reference) (past_standings d.entries news i fewer new) ∙ named
+      ]
+
   seated_at : (i : ℕ) → i < length all → Seated (entry_at all i)
   seated_at i inside =
       let lt : i < length rows = omega (arith, inside, size) in
       let row = row_at_place i inside in
       record {
         row = (omega (arith, row), omega (arith, row, lt, bookings.few));
+        reference = (let own = reference_at_place i inside in (omega (arith, own), omega (arith, own, lt, bookings.few)));
         channel = λ accepted. subst IsChannel (sym (frame_at i lt).channel) (set.only (channel_at assigned i) (carries.in_service i lt (accepted_at i lt accepted)));
       }
 

@@ -35,9 +35,11 @@ use Rattle.bx_q931.specs.Messages.{PlainMessage, message_at}
 use Rattle.bx_q931.specs.declared.reference.Reference.{Reference}
 use Rattle.bx_q931.specs.declared.reference.Reference.TheVariants.{Dummy, Value}
 use Rattle.bx_q931.specs.declared.fault.MessageFault.{MessageFault}
+use Rattle.bx_day.specs.Changed.{AreReferredByRow}
 use Rattle.bx_day.specs.Invariant.{EntryFits, StandingFits, CallFits, Apart, Pairs, DayFits, is_refused, phase_of, PhaseFits, DueFits}
 use Rattle.bx_day.specs.Clearing.{added, ClearsBy, StandingClears, EntryClears, DayClears}
 use Rattle.bx_day.specs.Law.{OnLive, OnCarried, standing_at, IsOrderly}
+use Rattle.bx_day.proofs.Once.{each_at}
 use Rattle.bx_day.proofs.Sent.{Placed}
 use Rattle.bx_day.proofs.Tick.{by_cases, unlinked, without_fits, with_standing, offers, tick_fits, follow_refused}
 use Rattle.bx_day.proofs.Receive.{receive_fits, all_at, apart_none, OpenAt, open_parts, open_index, open_lowest}
@@ -139,14 +141,18 @@ pub row_of_entry : (k : ℕ) (b : Row) (a : Option ℕ) → (entry_of k b a).row
 row_of_entry k b None = refl
 row_of_entry k b (Some c) = refl
 
-opening_row : (k : ℕ) (rows : List Row) (assigned : List (Option ℕ)) (i n : ℕ) → k + i ≡ n → i < length rows → (entry_at (entries_from k rows assigned) i).row ≡ n
+pub reference_of_entry : (k : ℕ) (b : Row) (a : Option ℕ) → (entry_of k b a).reference ≡ k
+reference_of_entry k b None = refl
+reference_of_entry k b (Some c) = refl
+
+opening_row : (k : ℕ) (rows : List Row) (assigned : List (Option ℕ)) (i n : ℕ) → k + i ≡ n → i < length rows → (entry_at (entries_from k rows assigned) i).reference ≡ n
 opening_row k [] assigned i n q lt = absurd (omega arith)
-opening_row k (b ∷ bs) [] zero n q lt = row_of_entry k b None ∙ same k n q
+opening_row k (b ∷ bs) [] zero n q lt = reference_of_entry k b None ∙ same k n q
   where
     same : (x y : ℕ) → x + 0 ≡ y → x ≡ y
     same x y h = omega arith
 opening_row k (b ∷ bs) [] (suc i) n q lt = opening_row (k + 1) bs [] i n (omega arith) (omega arith)
-opening_row k (b ∷ bs) (a ∷ as') zero n q lt = row_of_entry k b a ∙ same k n q
+opening_row k (b ∷ bs) (a ∷ as') zero n q lt = reference_of_entry k b a ∙ same k n q
   where
     same : (x y : ℕ) → x + 0 ≡ y → x ≡ y
     same x y h = omega arith
@@ -156,14 +162,23 @@ all_from : (P : Entry → Type 0) (es : List Entry) → ((i : ℕ) → i < lengt
 all_from P [] h = tt
 all_from P (e ∷ es) h = (h 0 (omega arith), all_from P es (λ i lt. h (suc i) (omega arith)))
 
+own_entry : (k : ℕ) (b : Row) (a : Option ℕ) → (entry_of k b a).reference ≡ (entry_of k b a).row
+own_entry k b None = refl
+own_entry k b (Some c) = refl
+
+opening_own : (k : ℕ) (rows : List Row) (assigned : List (Option ℕ)) → AllByRecursion (λ (e : Entry). e.reference ≡ e.row) (entries_from k rows assigned)
+opening_own k [] assigned = tt
+opening_own k (b ∷ bs) [] = (own_entry k b None, opening_own (k + 1) bs [])
+opening_own k (b ∷ bs) (a ∷ as') = (own_entry k b a, opening_own (k + 1) bs as')
+
 pub opening_placed : (rows : List Row) (assigned : List (Option ℕ)) → AllByRecursion (Placed rows assigned) (entries_from 1 rows assigned)
 opening_placed rows assigned = all_from (Placed rows assigned) (entries_from 1 rows assigned) (λ i lt.
     let lt' : i < length rows = subst (λ n. i < n) (opening_length 1 rows assigned) lt in
     let f = opening_framed 1 rows assigned i lt' in
-    record { index = i; row = opening_row 1 rows assigned i (suc i) (omega arith) lt'; booking = f.booking; channel = f.channel; accepted = f.accepted })
+    record { index = i; row = opening_row 1 rows assigned i (suc i) (omega arith) lt'; own = all_at (λ (e : Entry). e.reference ≡ e.row) refl (entries_from 1 rows assigned) i (opening_own 1 rows assigned); booking = f.booking; channel = f.channel; accepted = f.accepted })
 
 replace : (rows : List Row) (assigned : List (Option ℕ)) (e : Entry) (s : Standing) → is_refused s ≡ is_refused e.standing → Placed rows assigned e → Placed rows assigned (with_standing e s)
-replace rows assigned e s same p = record { index = p.index; row = p.row; booking = p.booking; channel = p.channel; accepted = same ∙ p.accepted }
+replace rows assigned e s same p = record { index = p.index; row = p.row; own = p.own; booking = p.booking; channel = p.channel; accepted = same ∙ p.accepted }
 
 second_placed : (rows : List Row) (assigned : List (Option ℕ)) (link : Link) (d : Day) (es : List Entry) → AllByRecursion (Placed rows assigned) es → AllByRecursion (Placed rows assigned) (map (after_in link d) es)
 second_placed rows assigned link d [] h = tt
@@ -224,6 +239,10 @@ received_framed rows assigned d m (Some i) h = moved_framed rows assigned d i (h
 pub record RunFits (rows : List Row) (assigned : List (Option ℕ)) (d : Day) : Type 0 where
   pub day : DayFits d
   pub framed : Framed rows assigned d
+
+-- so that each booking has its row as the reference
+pub referred_by_row : (rows : List Row) (assigned : List (Option ℕ)) (d : Day) → RunFits rows assigned d → AreReferredByRow d.entries
+referred_by_row rows assigned d fits i lt = (each_at (Placed rows assigned) d.entries i lt fits.framed.1).own
 
 received_run : (rows : List Row) (assigned : List (Option ℕ)) (d : Day) (m : Said) → RunFits rows assigned d → RunFits rows assigned (receive d m).day
 received_run rows assigned d m h = record { day = receive_fits d m h.day; framed = received_framed rows assigned d m (position (names m) d.entries) h.framed }

@@ -33,3 +33,10 @@ mod WaitingAnew
 pub mod Extended
 pub mod LongerPlan
 pub mod ExtendedIndex
+pub mod Changed
+pub mod ChangedPlan
+pub mod ChangedIndex
+pub mod Lived
+pub mod Restored
+pub mod Handed
+pub mod GoingOn

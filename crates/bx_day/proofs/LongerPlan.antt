@@ -34,8 +34,8 @@ same_standings (e ∷ es) (n ∷ ns) le same = ap₂ (λ s xs. with_standing n s
 -- ---- of the opening
 
 seat_of : (m k : ℕ) (b b' : Row) (a a' : Option ℕ) → IsSameBooking b b' → b'.start < b'.end → is_some a' ≡ is_some a → (b.start < m → a' ≡ a) → IsSeat m (entry_of k b a) (entry_of k b' a')
-seat_of m k b b' None None s order accepted channel = record { row = refl; start = s.start; end = s.end; number = s.number; inward = s.inward; order = omega (arith, order, s.start, s.end); place = inr tt }
-seat_of m k b b' (Some c) (Some c') s order accepted channel = record { row = refl; start = s.start; end = s.end; number = s.number; inward = s.inward; order = omega (arith, order, s.start, s.end); place = elim (cases_lt b.start m) [ inl early ↦ inl (ap (λ (o : Option ℕ). unwrap_or o 0) (channel early)) | inr after ↦ inr after ] }
+seat_of m k b b' None None s order accepted channel = record { row = refl; reference = refl; start = s.start; end = s.end; number = s.number; inward = s.inward; order = omega (arith, order, s.start, s.end); place = inr tt }
+seat_of m k b b' (Some c) (Some c') s order accepted channel = record { row = refl; reference = refl; start = s.start; end = s.end; number = s.number; inward = s.inward; order = omega (arith, order, s.start, s.end); place = elim (cases_lt b.start m) [ inl early ↦ inl (ap (λ (o : Option ℕ). unwrap_or o 0) (channel early)) | inr after ↦ inr after ] }
 seat_of m k b b' None (Some c') s order accepted channel = absurd (true≢false accepted)
 seat_of m k b b' (Some c) None s order accepted channel = absurd (false≢true accepted)
 

@@ -35,11 +35,11 @@ added rows assigned i before after b a lt p q r s =
 pub all_added : (rows : List Row) (assigned : List (Option ℕ)) (i : ℕ) (before : List Entry) → length rows ≤ i → before ≡ take i (entries_from 1 rows assigned) → before ≡ entries_from 1 rows assigned
 all_added rows assigned i before le p = p ∙ take_all i (entries_from 1 rows assigned) (omega (arith, le, opening_size 1 rows assigned))
 
-seat : (k : ℕ) (b : Row) (a : Option ℕ) → 1 ≤ k → k ≤ 4000 → ((c : ℕ) → a ≡ Some c → IsChannel c) → Seated (entry_of k b a)
-seat k b None one few h = record { row = (one, omega (arith, few)); channel = λ e. absurd (true≢false e) }
-seat k b (Some c) one few h = record { row = (one, omega (arith, few)); channel = λ e. h c refl }
+seat : (k : ℕ) (b : Row) (a : Option ℕ) → 1 ≤ k → k ≤ 16000 → ((c : ℕ) → a ≡ Some c → IsChannel c) → Seated (entry_of k b a)
+seat k b None one few h = record { row = (one, omega (arith, few)); reference = (one, omega (arith, few)); channel = λ e. absurd (true≢false e) }
+seat k b (Some c) one few h = record { row = (one, omega (arith, few)); reference = (one, omega (arith, few)); channel = λ e. h c refl }
 
-pub opening_seated : (k : ℕ) (rows : List Row) (assigned : List (Option ℕ)) → 1 ≤ k → k + length rows ≤ 4001 → ((i c : ℕ) → i < length rows → slice_index_or assigned i None ≡ Some c → IsChannel c) → AllByRecursion Seated (entries_from k rows assigned)
+pub opening_seated : (k : ℕ) (rows : List Row) (assigned : List (Option ℕ)) → 1 ≤ k → k + length rows ≤ 16001 → ((i c : ℕ) → i < length rows → slice_index_or assigned i None ≡ Some c → IsChannel c) → AllByRecursion Seated (entries_from k rows assigned)
 opening_seated k [] assigned one few h = tt
 opening_seated k (b ∷ bs) [] one few h = (seat k b None one (omega (arith, few)) (λ c. h 0 c (omega arith)), opening_seated (k + 1) bs [] (omega arith) (omega (arith, few)) (λ i c lt q. h (suc i) c (omega (arith, lt)) q))
 opening_seated k (b ∷ bs) (a ∷ as') one few h = (seat k b a one (omega (arith, few)) (λ c. h 0 c (omega arith)), opening_seated (k + 1) bs as' (omega arith) (omega (arith, few)) (λ i c lt q. h (suc i) c (omega (arith, lt)) q))

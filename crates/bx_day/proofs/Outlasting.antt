@@ -216,14 +216,14 @@ still_maintained d c (b ∷ bs) = ap₂ (λ x xs. x ∷ xs) (ap (λ x. b || x) (
     or_false true = refl
     or_false false = refl
 
-unlinked_some : (n m before : ℕ) → unlinked_for (n + 1) m before ≡ m + (n + 1)
-unlinked_some n m before = ap (λ b. if b then before else m + (n + 1)) (one_more n)
+unlinked_some : (n m before : ℕ) → unlinked_for (n + 1) m before ≡ m + (n + 1) + 1
+unlinked_some n m before = ap (λ b. if b then before else m + (n + 1) + 1) (one_more n)
 
-unlinked_more : (n m before : ℕ) → unlinked_for n (m + 1) (m + 1) ≡ unlinked_for (n + 1) m before
+unlinked_more : (n m before : ℕ) → unlinked_for n (m + 1) (m + 2) ≡ unlinked_for (n + 1) m before
 unlinked_more n m before = decide (n == 0)
     (λ none. let zero : n ≡ 0 = eqb-true n 0 none in
-    ap (λ b. if b then m + 1 else m + 1 + n) none ∙ (let q : m + 1 ≡ m + (n + 1) = omega (arith, zero) in q) ∙ sym (unlinked_some n m before))
-    (λ some. ap (λ b. if b then m + 1 else m + 1 + n) some ∙ (let q : m + 1 + n ≡ m + (n + 1) = omega arith in q) ∙ sym (unlinked_some n m before))
+    ap (λ b. if b then m + 2 else m + 1 + n + 1) none ∙ (let q : m + 2 ≡ m + (n + 1) + 1 = omega (arith, zero) in q) ∙ sym (unlinked_some n m before))
+    (λ some. ap (λ b. if b then m + 2 else m + 1 + n + 1) some ∙ (let q : m + 1 + n + 1 ≡ m + (n + 1) + 1 = omega arith in q) ∙ sym (unlinked_some n m before))
 
 abbrev pub outlasts_day : ℕ → Day → Day
 outlasts_day n d = record { moment = d.moment + n; unlinked = unlinked_for n d.moment d.unlinked; entries = map (outlasts n (d.moment + n)) d.entries; maintenance = d.maintenance }

@@ -91,7 +91,7 @@ few_somes d said h size each = subst (λ (os : List Outgoing). length os ≤ 30)
 
 all_seated : (link : Link) (d : Day) (es : List Entry) → AllByRecursion Seated es → AllByRecursion Seated (map (after_in link d) es)
 all_seated link d [] h = tt
-all_seated link d (e ∷ es) h = (record { row = h.0.row; channel = λ accepted. h.0.channel (in_refused link (d.moment + 1) (is_back d) (is_free d e.channel) e e.standing accepted) }, all_seated link d es h.1)
+all_seated link d (e ∷ es) h = (record { row = h.0.row; reference = h.0.reference; channel = λ accepted. h.0.channel (in_refused link (d.moment + 1) (is_back d) (is_free d e.channel) e e.standing accepted) }, all_seated link d es h.1)
 
 pub map_size : (link : Link) (d : Day) (es : List Entry) → length (map (after_in link d) es) ≡ length es
 map_size link d [] = refl

@@ -98,7 +98,7 @@ call_quiet moment t back free e c a fits lt = ap (follows a t) (at_rest c c.stat
 
 -- one that is not offered and not missed goes on waiting
 pub waits_on : (e : Entry) (t : ℕ) (back free : Bool) → offers e t free ≡ false → t < e.booking.end → waits e t back free ≡ stays Unoffered
-waits_on e t back free unoffered early = ap (λ b. if b then (becomes (OnCall (net_offered e.row e.channel e.booking.number back t) Never) (Some (setup_of e.row e.channel e.booking.number))) else (if nat_le e.booking.end t then stays Missed else stays Unoffered)) unoffered ∙ ap (λ b. if b then stays Missed else stays Unoffered) (late e.booking.end t early)
+waits_on e t back free unoffered early = ap (λ b. if b then (becomes (OnCall (net_offered e.reference e.channel e.booking.number back t) Never) (Some (setup_of e.reference e.channel e.booking.number))) else (if nat_le e.booking.end t then stays Missed else stays Unoffered)) unoffered ∙ ap (λ b. if b then stays Missed else stays Unoffered) (late e.booking.end t early)
 
 pub not_offered : (a b c : Bool) → (b || not c) ≡ true → (a && not b && c) ≡ false
 not_offered true true c h = refl

@@ -15,14 +15,13 @@ use Rattle.bx_calls.specs.declared.net_state.NetState.{NetState}
 use Rattle.bx_calls.specs.declared.net_state.NetState.TheVariants.{CallPresent, Active, ReleaseRequest}
 use Rattle.bx_calls.specs.Hearing.{Heard, names_channel, reports_null}
 use Rattle.bx_calls.specs.Expected.{net_awake}
-use Rattle.bx_calls.specs.NetTable.{net_awake_state, net_row, net_flag, net_answered}
+use Rattle.bx_calls.specs.NetTable.{net_awake_state, net_row, net_answered}
 use Rattle.bx_base.specs.Bookings.{is_running}
 use Rattle.bx_channels.specs.ChannelNumbers.{IsChannel}
 use Rattle.bx_calls.specs.Said.{Said}
-use Rattle.bx_calls.specs.Shared.{bool_eq}
 use Rattle.bx_channels.specs.Marks.{is_marked}
 use Rattle.bx_day.specs.Day.{Day, holds, is_held, is_free, is_unoffered, every_channel, entry_at}
-use Rattle.bx_day.specs.Receipts.{is_open, opens, or_else, lowest_open, names, names_call, hears, takes_call, takes_or, takes_preferred, with_moved, received_at}
+use Rattle.bx_day.specs.Receipts.{is_open, opens, or_else, lowest_open, hears, takes_call, takes_or, takes_preferred, with_moved, received_at}
 use Rattle.bx_day.specs.Moves.{becomes, follows}
 use Rattle.bx_day.specs.declared.entry.Activity.{Activity}
 use Rattle.bx_day.specs.declared.entry.Activity.TheVariants.{Never}
@@ -30,12 +29,12 @@ use Rattle.bx_day.specs.declared.entry.Entry.{Entry}
 use Rattle.bx_day.specs.declared.entry.Moved.{Moved}
 use Rattle.bx_day.specs.declared.entry.Standing.{Standing}
 use Rattle.bx_day.specs.declared.entry.Standing.TheVariants.{OnCall}
-use Rattle.bx_day.specs.Invariant.{StandingFits, EntryFits, OriginFits, DayFits, is_refused}
+use Rattle.bx_day.specs.Invariant.{DayFits, is_refused}
 use Rattle.bx_day.specs.Reading.{IsExchange, Seated}
 use Rattle.bx_day.specs.Calling.{awaits}
 use Rattle.bx_day.proofs.Hear.{heard_by}
-use Rattle.bx_day.proofs.Indices.{index_found, index_none, position_next}
-use Rattle.bx_day.proofs.Receive.{all_at, OpenAt, open_parts, open_index, open_lowest, open_or, takes_fits, received_fits, hears_refused}
+use Rattle.bx_day.proofs.Indices.{index_none, position_next}
+use Rattle.bx_day.proofs.Receive.{OpenAt, open_parts, open_index, open_lowest, open_or, takes_fits, received_fits, hears_refused}
 use Rattle.bx_day.proofs.Tick.{with_standing}
 use Rattle.bx_day.proofs.Law.{all_update}
 
@@ -61,36 +60,6 @@ row_whole c m t a o s k e = refl
 pub hears_whole : (m : Said) (t : ℕ) (s : Standing) → (hears m t s).broken ≡ false
 hears_whole m t (OnCall c a) = heard_by (Whole a t) c m.heard t c.state m.heard.kind (record { contradicted = λ asked due is q. refl; unacknowledged = λ asked due is q. refl; connected = λ due is q. refl; put_off = λ offer due is q. refl }) (row_whole (net_awake c) m.heard t a c.origin (net_awake_state c.state) m.heard.kind refl)
 hears_whole m t s = refl
-
--- ---- who is named: a call that the exchange began has its row as reference
-
-origin_row : (row : ℕ) (e : Entry) (c : PlainNetCall) (o : NetOrigin) → OriginFits e.row e.booking c.reference o → bool_eq (net_flag o) false ≡ true → c.reference ≡ e.row
-origin_row row e c (Outward called) fits h = fits.1
-origin_row row e c Inward fits h = absurd (false≢true h)
-
-standing_row : (t : ℕ) (m : Said) (e : Entry) (s : Standing) → m.flag ≡ true → StandingFits t e s → names_call m s ≡ true → e.row ≡ m.reference
-standing_row t m e (OnCall c a) flag fits h =
-    let p = and_parts (c.reference == m.reference) (bool_eq (net_flag c.origin) (not m.flag)) h in
-    let outward : bool_eq (net_flag c.origin) false ≡ true = subst (λ (b : Bool). bool_eq (net_flag c.origin) (not b) ≡ true) flag p.1 in
-    sym (origin_row e.row e c c.origin fits.origin outward) ∙ eqb-true c.reference m.reference p.0
-standing_row t m e s flag fits h = absurd (false≢true h)
-
-named_place : (d : Day) (m : Said) (k : ℕ) → IsExchange d → m.flag ≡ true → k < length d.entries → names m (entry_at d.entries k) ≡ true → k + 1 ≡ m.reference
-named_place d m k h flag lt named =
-    let e = entry_at d.entries k in
-    sym (h.numbered k lt) ∙ standing_row d.moment m e e.standing flag (all_at (EntryFits d.moment) tt d.entries k h.day.each) named
-
-pub outward_found : (d : Day) (m : Said) (i : ℕ) → IsExchange d → m.flag ≡ true → i < length d.entries → names m (entry_at d.entries i) ≡ true → position (names m) d.entries ≡ Some i
-outward_found d m i h flag lt named =
-    let here = named_place d m i h flag lt named in
-    index_found (names m) d.entries i lt named (λ k less. false_from_ne_true (names m (entry_at d.entries k)) (λ other.
-    let there = named_place d m k h flag (omega (arith, less, lt)) other in omega (arith, here, there, less)))
-
-pub outward_none : (d : Day) (m : Said) (i : ℕ) → IsExchange d → m.flag ≡ true → m.reference ≡ i + 1 → (i < length d.entries → names m (entry_at d.entries i) ≡ false) → position (names m) d.entries ≡ None
-outward_none d m i h flag place unnamed = index_none (names m) d.entries (λ k lt. false_from_ne_true (names m (entry_at d.entries k)) (λ other.
-    let there : k + 1 ≡ m.reference = named_place d m k h flag lt other in
-    let same : k ≡ i = omega (arith, there, place) in
-    true≢false (sym other ∙ subst (λ (n : ℕ). names m (entry_at d.entries n) ≡ false) (sym same) (unnamed (subst (λ (n : ℕ). n < length d.entries) same lt)))))
 
 -- ---- who may be called
 
@@ -217,7 +186,7 @@ row_set (e ∷ es) (suc i) (suc k) s = row_set es i k s
 row_set (e ∷ es) i k s = refl
 
 reseat : (e : Entry) (s : Standing) → (is_refused s ≡ false → is_refused e.standing ≡ false) → Seated e → Seated (with_standing e s)
-reseat e s f h = record { row = h.row; channel = λ r. h.channel (f r) }
+reseat e s f h = record { row = h.row; reference = h.reference; channel = λ r. h.channel (f r) }
 
 pub moved_exchange : (d : Day) (i : ℕ) (m : Moved) → DayFits (with_moved d i m).day → (is_refused m.standing ≡ false → is_refused (entry_at d.entries i).standing ≡ false) → IsExchange d → IsExchange (with_moved d i m).day
 moved_exchange d i m fits f h =

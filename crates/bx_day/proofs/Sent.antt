@@ -96,7 +96,8 @@ proceeding_fits rows assigned t i r ch accepted inward runs channel = record {
 -- where an entry stands in its plan: its index there, and what no event changes of it
 pub record Placed (rows : List Row) (assigned : List (Option ℕ)) (e : Entry) : Type 0 where
   pub index : ℕ
-  pub row : e.row ≡ suc index
+  pub row : e.reference ≡ suc index
+  pub own : e.reference ≡ e.row
   pub booking : e.booking ≡ row_at rows index
   pub channel : e.channel ≡ channel_at assigned index
   pub accepted : is_refused e.standing ≡ not (is_accepted assigned index)
@@ -109,7 +110,7 @@ placed_accepted rows assigned e p accepted = not_refused (is_accepted assigned p
     not_refused false h = h
 
 -- a SETUP for a booking that runs, from the exchange
-pub setup_fits : (rows : List Row) (assigned : List (Option ℕ)) (t : ℕ) (e : Entry) (r ch : ℕ) (called : List ℕ) → Placed rows assigned e → is_refused e.standing ≡ false → e.booking.inward ≡ false → is_running e.booking t ≡ true → r ≡ e.row → ch ≡ e.channel → OutFits rows assigned t (setup_of r ch called)
+pub setup_fits : (rows : List Row) (assigned : List (Option ℕ)) (t : ℕ) (e : Entry) (r ch : ℕ) (called : List ℕ) → Placed rows assigned e → is_refused e.standing ≡ false → e.booking.inward ≡ false → is_running e.booking t ≡ true → r ≡ e.reference → ch ≡ e.channel → OutFits rows assigned t (setup_of r ch called)
 setup_fits rows assigned t e r ch called p accepted outward runs same on =
     setup_at rows assigned t p.index r ch called (same ∙ p.row)
     (placed_accepted rows assigned e p accepted)
@@ -157,7 +158,7 @@ heard_plain r ch o t m s k = heard_by (λ (x : Transition PlainNetCall). OfSaid 
 abbrev SecondFits : List Row → List (Option ℕ) → ℕ → ℕ → PlainNetCall → Type 0
 SecondFits rows assigned t end c = OfSaid (OutFits rows assigned t) (net_second c t end).reply
 
-again_fits : (rows : List Row) (assigned : List (Option ℕ)) (t : ℕ) (e : Entry) (r ch : ℕ) (o : NetOrigin) (s : NetState) → Placed rows assigned e → is_refused e.standing ≡ false → OriginFits e.row e.booking r o → is_running e.booking t ≡ true → ch ≡ e.channel → OfSaid (OutFits rows assigned t) (net_setup_again (call_of r ch o s) o)
+again_fits : (rows : List Row) (assigned : List (Option ℕ)) (t : ℕ) (e : Entry) (r ch : ℕ) (o : NetOrigin) (s : NetState) → Placed rows assigned e → is_refused e.standing ≡ false → OriginFits e.reference e.booking r o → is_running e.booking t ≡ true → ch ≡ e.channel → OfSaid (OutFits rows assigned t) (net_setup_again (call_of r ch o s) o)
 again_fits rows assigned t e r ch (Outward called) s p accepted origin runs on = setup_fits rows assigned t e r ch called p accepted origin.0 runs origin.1 on
 again_fits rows assigned t e r ch Inward s p accepted origin runs on = tt
 
@@ -217,7 +218,7 @@ waits_said : (rows : List Row) (assigned : List (Option ℕ)) (t : ℕ) (e : Ent
 waits_said rows assigned t e back free p =
     by_cases (offers e t free) _ _ (λ (m : Moved). OfSaid (OutFits rows assigned t) m.said)
     (λ offered. let q = offers_parts e t free offered in
-    setup_fits rows assigned t (with_standing e Unoffered) e.row e.channel e.booking.number p refl q.1 q.0 refl refl)
+    setup_fits rows assigned t (with_standing e Unoffered) e.reference e.channel e.booking.number p refl q.1 q.0 refl refl)
     (λ _. by_cases (nat_le e.booking.end t) _ _ (λ (m : Moved). OfSaid (OutFits rows assigned t) m.said) (λ _. tt) (λ _. tt))
 
 entry_said : (rows : List Row) (assigned : List (Option ℕ)) (t : ℕ) (e : Entry) (back free : Bool) (s : Standing) → Placed rows assigned (with_standing e s) → EntryFits t (with_standing e s) → OfSaid (OutFits rows assigned (t + 1)) (second_at e (t + 1) back free s).said

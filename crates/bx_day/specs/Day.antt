@@ -1,5 +1,5 @@
 -- The day: what has become of each booking, and the channels in maintenance; how it opens.
-use Rattle.std.specs.Prelude.{ℕ, ◌+◌, ◌==◌, nat_lt, ◌&&◌, not, Bool, true, false, List, [], ◌∷◌, Option, Some, None, slice_index_or}
+use Rattle.std.specs.Prelude.{ℕ, ◌+◌, ◌==◌, ◌&&◌, not, Bool, true, false, List, [], ◌∷◌, Option, Some, None, slice_index_or}
 use Rattle.std.specs.List.{list_any}
 use Rattle.bx_calls.specs.Shared.{no_channel}
 use Rattle.bx_channels.specs.Marks.{is_marked}
@@ -8,7 +8,7 @@ use Rattle.bx_day.specs.declared.entry.Standing.TheVariants.{Refused, Unoffered,
 use Rattle.bx_day.specs.declared.entry.Entry.{Entry}
 use Rattle.bx_base.specs.Bookings.{Row, no_row}
 
--- unlinked is the moment of the last second without a link, 0 where there was none
+-- unlinked is the moment after the last second without a link and one more, 0 where there was none
 pub record Day : Type 0 where
   pub moment : ℕ
   pub unlinked : ℕ
@@ -36,22 +36,22 @@ is_free d c = not (is_held d.entries c) && not (is_marked d.maintenance c)
 
 -- there was no link in the last second
 abbrev pub is_back : Day → Bool
-is_back d = nat_lt 0 d.unlinked && (d.unlinked == d.moment)
+is_back d = d.unlinked == d.moment + 1
 
 abbrev pub is_unoffered : Standing → Bool
 is_unoffered Unoffered = true
 is_unoffered _ = false
 
 abbrev pub no_entry : Entry
-no_entry = record { row = 0; booking = no_row; channel = 0; standing = Refused }
+no_entry = record { row = 0; reference = 0; booking = no_row; channel = 0; standing = Refused }
 
 abbrev pub entry_at : List Entry → ℕ → Entry
 entry_at entries i = slice_index_or entries i no_entry
 
 -- the opening day of a plan
 abbrev pub entry_of : ℕ → Row → Option ℕ → Entry
-entry_of row booking None = record { row = row; booking = booking; channel = 0; standing = Refused }
-entry_of row booking (Some c) = record { row = row; booking = booking; channel = c; standing = Unoffered }
+entry_of row booking None = record { row = row; reference = row; booking = booking; channel = 0; standing = Refused }
+entry_of row booking (Some c) = record { row = row; reference = row; booking = booking; channel = c; standing = Unoffered }
 
 abbrev pub entries_from : ℕ → List Row → List (Option ℕ) → List Entry
 entries_from row [] assigned = []

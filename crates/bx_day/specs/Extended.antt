@@ -21,6 +21,7 @@ extended rows assigned d = record d { entries = with_standings d.entries (entrie
 -- a booking of a day at moment t as a row of a longer plan, by the channel that it is given there
 pub record IsKeptRow (t : ℕ) (e : Entry) (row : Row) (given : Option ℕ) : Type 0 where
   pub same : IsSameBooking e.booking row
+  pub reference : e.reference ≡ e.row
   pub accepted : is_some given ≡ not (is_refused e.standing)
   pub channel : is_refused e.standing ≡ false → e.booking.start ≤ t → given ≡ Some e.channel
 

@@ -55,15 +55,15 @@ ActivityFits t b Clearing Never = Unit {0}
 ActivityFits t b Clearing (Was from until) = (b.start ≤ from) × (from ≤ until) × (until ≤ t) × (until ≤ b.end)
 ActivityFits t b _ _ = ⊥
 
--- a call that the exchange began has the row as its reference
+-- a call that the exchange began has the reference of its booking
 abbrev pub OriginFits : ℕ → Row → ℕ → NetOrigin → Type 0
-OriginFits row b reference (Outward called) = (b.inward ≡ false) × (reference ≡ row)
-OriginFits row b reference Inward = b.inward ≡ true
+OriginFits own b reference (Outward called) = (b.inward ≡ false) × (reference ≡ own)
+OriginFits own b reference Inward = b.inward ≡ true
 
 -- a live call of a booking
 pub record CallFits (t : ℕ) (e : Entry) (c : PlainNetCall) (a : Activity) : Type 0 where
   pub channel : c.channel ≡ e.channel
-  pub origin : OriginFits e.row e.booking c.reference c.origin
+  pub origin : OriginFits e.reference e.booking c.reference c.origin
   pub phase : PhaseFits t e.booking (phase_of c.state)
   pub due : DueFits t c.state
   pub activity : ActivityFits t e.booking (phase_of c.state) a

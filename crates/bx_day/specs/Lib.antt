@@ -20,3 +20,9 @@ pub mod Course
 pub mod Outlasting
 pub mod Extended
 pub mod Keeping
+pub mod Changed
+pub mod Changing
+pub mod Handing
+pub mod HandingInside
+pub mod Restoring
+pub mod RestoringInside

@@ -20,7 +20,7 @@ IfTimersFit n s P = (latest : ℕ) → IsTimedBy latest s → latest + n ≤ 429
 
 -- the moment of the last second without a link, after n of them from moment m on
 abbrev pub unlinked_for : ℕ → ℕ → ℕ → ℕ
-unlinked_for n m before = if n == 0 then before else m + n
+unlinked_for n m before = if n == 0 then before else m + n + 1
 
 -- what has become of a booking in n such seconds, of which the last comes to moment t: a call is not Active after its
 -- booking's end

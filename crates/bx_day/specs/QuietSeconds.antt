@@ -6,6 +6,7 @@ use Rattle.bx_day.specs.Quiet.{booking_due}
 use Rattle.bx_day.specs.declared.entry.Entry.{Entry}
 use Rattle.bx_day.specs.declared.entry.Standing.{Standing}
 use Rattle.bx_day.specs.declared.entry.Standing.TheVariants.{Unoffered}
+use Rattle.bx_events.specs.declared.moment.TheConstants.{LAST_MOMENT}
 
 -- the same day, k seconds later
 abbrev pub later_by : ℕ → Day → Day
@@ -31,7 +32,7 @@ due_at d i = tick_due (entry_at d.entries i) (is_free d (entry_at d.entries i).c
 
 -- the first of these ticks over the first n bookings, or the tick after the day's last
 pub record IsFirstDue (d : Day) (n due : ℕ) : Type 0 where
-  pub limit : due ≤ 300001
+  pub limit : due ≤ LAST_MOMENT + 1
   pub ordered : (i : ℕ) → i < n → (entry_at d.entries i).booking.start ≤ (entry_at d.entries i).booking.end
   pub before : (i : ℕ) → i < n → due ≤ due_at d i
-  pub latest : (t : ℕ) → t ≤ 300001 → ((i : ℕ) → i < n → t ≤ due_at d i) → t ≤ due
+  pub latest : (t : ℕ) → t ≤ LAST_MOMENT + 1 → ((i : ℕ) → i < n → t ≤ due_at d i) → t ≤ due

@@ -41,9 +41,10 @@ live_at d (Some i) = called_by (entry_at d.entries i) (entry_at d.entries i).sta
 abbrev pub on_channel : Day → ℕ → Option (ℕ × CallState)
 on_channel d c = live_at d (position (holds c) d.entries)
 
--- an accepted booking has a channel, and each row can be a call reference
+-- an accepted booking has a channel, and each row and each reference can be a call reference
 pub record Seated (e : Entry) : Type 0 where
   pub row : IsCallReference e.row
+  pub reference : IsCallReference e.reference
   pub channel : is_refused e.standing ≡ false → IsChannel e.channel
 
 -- rows are named 1, 2, ..

@@ -1,5 +1,5 @@
 -- Private: slots after a tick, and what is due on them.
-use Rattle.std.specs.Prelude.{◌≡◌, ℕ, ◌<◌, ◌≤◌, Bool, false, List, length, map, Option, Some, None, min, if◌then◌else◌}
+use Rattle.std.specs.Prelude.{◌≡◌, ℕ, ◌+◌, ◌<◌, ◌≤◌, Bool, false, List, length, map, Option, Some, None, min, if◌then◌else◌}
 use Rattle.bx_day.specs.Day.{Day, is_live, is_unoffered, entry_at}
 use Rattle.bx_day.specs.Invariant.{is_refused}
 use Rattle.bx_day.specs.QuietSeconds.{tick_due, due_at}
@@ -41,13 +41,13 @@ earlier (Some other) i = min other i
 
 -- the first tick that does something to the booking of a slot, or the one after the day's last
 abbrev pub slot_due : List Entry → Bool → Option ℕ → ℕ
-slot_due es free None = 300001
+slot_due es free None = LAST_MOMENT + 1
 slot_due es free (Some i) = tick_due (entry_at es i) free (entry_at es i).standing
 
 -- the first of these ticks over the accepted bookings of one channel, where one is before the day's last
 pub record IsDueOn (d : Day) (c due : ℕ) : Type 0 where
-  pub before : (i : ℕ) → i < length d.entries → is_refused (entry_at d.entries i).standing ≡ false → (entry_at d.entries i).channel ≡ c → min 300001 due ≤ due_at d i
-  pub latest : (t : ℕ) → t ≤ 300001 → ((i : ℕ) → i < length d.entries → t ≤ due_at d i) → t ≤ due
+  pub before : (i : ℕ) → i < length d.entries → is_refused (entry_at d.entries i).standing ≡ false → (entry_at d.entries i).channel ≡ c → min (LAST_MOMENT + 1) due ≤ due_at d i
+  pub latest : (t : ℕ) → t ≤ LAST_MOMENT + 1 → ((i : ℕ) → i < length d.entries → t ≤ due_at d i) → t ≤ due
 
 -- slots of a day become those after a second of it, with a link or without one, whose bookings these are
 abbrev pub SettlesSlots : (entries : List Entry) (following live waiting later_live later_waiting : List (Option ℕ)) → Type 0

@@ -24,7 +24,7 @@ use Rattle.bx_events.specs.declared.moment.TheConstants.{LAST_MOMENT}
 abbrev pub waits : Entry → ℕ → Bool → Bool → Moved
 waits e t back free =
     if is_running e.booking t && not e.booking.inward && free
-    then becomes (OnCall (net_offered e.row e.channel e.booking.number back t) Never) (Some (setup_of e.row e.channel e.booking.number))
+    then becomes (OnCall (net_offered e.reference e.channel e.booking.number back t) Never) (Some (setup_of e.reference e.channel e.booking.number))
     else if nat_le e.booking.end t then stays Missed else stays Unoffered
 
 -- a booking of which this has become, at a tick to moment t
@@ -62,10 +62,10 @@ abbrev pub maintained_in : Link → Day → ℕ → List Bool → List Bool
 maintained_in link d c [] = []
 maintained_in link d c (b ∷ bs) = (b || list_any (breaks_in link d c) d.entries) ∷ maintained_in link d (c + 1) bs
 
--- the moment of the last second without a link, after a second at this moment
+-- one more than the moment that the last second without a link came to, after a second at this moment
 abbrev pub unlinked_after : Link → ℕ → ℕ → ℕ
 unlinked_after Up moment unlinked = unlinked
-unlinked_after Down moment unlinked = moment + 1
+unlinked_after Down moment unlinked = moment + 2
 
 -- a second, and what is said in it
 abbrev pub passed_in : Link → Day → Sent Day

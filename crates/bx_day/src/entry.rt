@@ -29,10 +29,12 @@ pub enum Standing {
     Missed,
 }
 
-/// A booking with its row and its channel, and what has become of it.
+/// A booking with its row, its channel and the reference of its call where the exchange begins that, and what has become of it. The
+/// reference is the row, but for a day that took over from another (`Exchange::hand_over`).
 #[derive(Clone, Copy)]
 pub struct Entry {
     pub row: u16,
+    pub reference: u16,
     pub booking: Booking,
     pub channel: u8,
     pub standing: Standing,

@@ -23,7 +23,7 @@ use std::marker::Model;
 #[derive(Drop)]
 pub struct Exchange {
     pub(crate) moment: u32,
-    /// The moment of the last second without a link, 0 where there was none.
+    /// One more than the moment that the last second without a link came to, 0 where there was none.
     pub(crate) unlinked: u32,
     pub(crate) entries: Vec<Entry>,
     pub(crate) maintenance: ChannelSet,

@@ -33,8 +33,8 @@ impl Exchange {
     /// wait have the channels of the plan, and new bookings wait for their starts after them. So the day is the one that the
     /// plan would have after the same events (`laws::day_of_a_longer_plan` of `bx_sales`). `OtherPlan`, which is tested first, where the plan
     /// does not go on from this day: where a booking is another, one that was accepted is refused or the other way round, one that
-    /// has started has another channel, or a new one starts by now. `Memory` where memory runs out. A fault changes nothing.
-    /// It looks at each booking once and sorts them by their starts.
+    /// has started has another channel, a new one starts by now, or a reference is not the row, as in a day that took over from another
+    /// (`hand_over`). `Memory` where memory runs out. A fault changes nothing. It looks at each booking once and sorts them by their starts.
     pub fn extend(&mut self, alloc: Global, plan: &Plan) -> Result<(), NoExtension>
         requires { Carries plan.now.bookings plan.now.channels (is_accepted plan.now.assigned.items) (channel_at plan.now.assigned.items) }
         ensures ok { OnOk result (self.new ≡ extended plan.now.bookings plan.now.assigned.items self.old) }
@@ -108,7 +108,7 @@ fn are_kept(entries: &[Entry], plan: &Plan, moment: u32) -> bool
 fn is_kept(entry: &Entry, booking: &Booking, channel: Option<Channel>, moment: u32) -> bool
     ensures { IsTrue result ↔ IsKeptRow moment entry.now booking.now channel }
 {
-    if entry.booking.as_must() != booking.as_must() {
+    if entry.booking.as_must() != booking.as_must() || entry.reference != entry.row {
         return false;
     }
     match channel {

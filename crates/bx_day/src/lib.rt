@@ -4,10 +4,12 @@
 #![tactic(auto)]
 
 mod calling;
+mod changing;
 mod end;
 mod entry;
 mod exchange;
 mod extending;
+pub mod handing;
 pub mod laws;
 mod linking;
 mod moving;
@@ -17,6 +19,7 @@ mod outcome;
 mod outcome_lines;
 mod quiet_seconds;
 mod receiving;
+mod restoring;
 mod scheduling;
 mod settling;
 mod ticking;

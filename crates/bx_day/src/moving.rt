@@ -98,7 +98,7 @@ pub(crate) fn second(
     link: Link,
 ) -> Moved
     requires moment { moment ≤ LAST_MOMENT }
-    requires row { IsCallReference entry.now.row }
+    requires row { IsCallReference entry.now.reference }
     requires channel { channel ≡ entry.now.channel }
     ensures { IfTimersFit 1 entry.now.standing (result ≡ second_by link entry.now moment back free entry.now.standing) }
 {
@@ -111,7 +111,7 @@ pub(crate) fn second(
 /// Without a link no timer runs, and nothing is offered.
 fn unlinked(entry: &Entry, channel: Channel, moment: u32) -> Moved
     requires moment { moment ≤ LAST_MOMENT }
-    requires row { IsCallReference entry.now.row }
+    requires row { IsCallReference entry.now.reference }
     requires channel { channel ≡ entry.now.channel }
     ensures { IfTimersFit 1 entry.now.standing (result ≡ unlinked_at entry.now moment entry.now.standing) }
 {
@@ -127,7 +127,7 @@ fn unlinked(entry: &Entry, channel: Channel, moment: u32) -> Moved
 /// A booking at a tick to this moment.
 fn linked(entry: &Entry, channel: Channel, moment: u32, back: bool, free: bool) -> Moved
     requires moment { moment ≤ LAST_MOMENT }
-    requires row { IsCallReference entry.now.row }
+    requires row { IsCallReference entry.now.reference }
     requires channel { channel ≡ entry.now.channel }
     ensures { result ≡ second_at entry.now moment back free entry.now.standing }
 {
@@ -138,7 +138,7 @@ fn linked(entry: &Entry, channel: Channel, moment: u32, back: bool, free: bool) 
         }
         Standing::Unoffered if booking.runs_at(moment) && !booking.is_inward() && free => {
             let (call, setup) = NetCall::offered(
-                entry.row,
+                entry.reference,
                 channel,
                 booking.number(),
                 back,

@@ -25,6 +25,7 @@ fn add(
     }
     let entry = Entry {
         row,
+        reference: row,
         booking,
         channel: number,
         standing,

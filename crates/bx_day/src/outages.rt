@@ -33,7 +33,7 @@ impl Exchange {
     }
 }
 
-/// The moment of the last second without a link, after so many of them at this moment.
+/// One more than the moment that the last second without a link came to, after so many of them at this moment.
 fn unlinked_for(seconds: u32, moment: u32, before: u32) -> u32
     requires { moment + seconds ≤ LAST_MOMENT }
     ensures { result ≡ unlinked_for seconds moment before }
@@ -41,7 +41,7 @@ fn unlinked_for(seconds: u32, moment: u32, before: u32) -> u32
     if seconds == 0 {
         before
     } else {
-        moment + seconds
+        moment + seconds + 1
     }
 }
 

@@ -62,43 +62,13 @@ impl Exchange {
 
     /// The index of the live booking whose call has this reference, and sends with the other flag.
     fn named(&self, reference: u16, flag: bool) -> Option<usize>
-        requires { IsCallReference reference }
         ensures first { (m : PlainMessage) → result ≡ position (names (said_of reference flag m)) self.now.entries }
-        ensures inside { IfSome result (λ i. i < length self.now.entries) }
-    {
-        if flag {
-            self.outward(reference)
-        } else {
-            self.inward(reference)
-        }
-    }
-
-    /// Of calls that the exchange began: their reference is their row.
-    fn outward(&self, reference: u16) -> Option<usize>
-        requires { IsCallReference reference }
-        ensures first { (m : PlainMessage) → result ≡ position (names (said_of reference true m)) self.now.entries }
-        ensures inside { IfSome result (λ i. i < length self.now.entries) }
-    {
-        let index = reference as usize - 1;
-        if index >= self.entries.len() {
-            return None;
-        }
-        if is_named(&self.entries[index], reference, true) {
-            Some(index)
-        } else {
-            None
-        }
-    }
-
-    /// Of calls that the far end began.
-    fn inward(&self, reference: u16) -> Option<usize>
-        ensures first { (m : PlainMessage) → result ≡ position (names (said_of reference false m)) self.now.entries }
         ensures inside { IfSome result (λ i. i < length self.now.entries) }
     {
         let mut first = None;
         for number in 0..32 {
             if let Some(index) = self.live[number] {
-                if is_named(&self.entries[index as usize], reference, false) {
+                if is_named(&self.entries[index as usize], reference, flag) {
                     first = Some(earlier(first, index as usize));
                 }
             }

@@ -88,10 +88,10 @@ impl Exchange {
     }
 
     /// Whether there was no link in the last second.
-    fn is_back(&self) -> bool
+    pub(crate) fn is_back(&self) -> bool
         ensures { result ≡ is_back self.now }
     {
-        self.unlinked > 0 && self.unlinked == self.moment
+        self.unlinked == self.moment + 1
     }
 
     /// The channels that are held by a live booking, or in maintenance.
@@ -110,14 +110,14 @@ impl Exchange {
     }
 }
 
-/// The moment of the last second without a link, after a second at this moment.
+/// One more than the moment that the last second without a link came to, after a second at this moment.
 fn unlinked_after(link: Link, moment: u32, unlinked: u32) -> u32
     requires { moment < LAST_MOMENT }
     ensures { result ≡ unlinked_after link moment unlinked }
 {
     match link {
         Link::Up => unlinked,
-        Link::Down => moment + 1,
+        Link::Down => moment + 2,
     }
 }
 

@@ -247,7 +247,7 @@ static TOLD_LAST: [Answer; 4] = [LATE, NO_CHANNEL, YES, FULL];
 
 /// A day with two places left: what is asked for after the second booking that starts later finds none.
 fn last_places(alloc: Global) -> Option<bool> {
-    let mut exchange = refused_day(alloc, 3998)?;
+    let mut exchange = refused_day(alloc, 15998)?;
     let world = world_after(alloc, &mut exchange, &[1], 0, &ASKED_LAST)?;
     Some(is_told(&world, &TOLD_LAST))
 }

@@ -8,6 +8,8 @@ mod batches;
 #[cfg(test)]
 mod booked_days;
 #[cfg(test)]
+mod changes;
+#[cfg(test)]
 mod days_of_messages;
 #[cfg(test)]
 mod days_of_ticks;
@@ -25,6 +27,8 @@ mod far_days;
 mod far_octets;
 #[cfg(test)]
 mod far_outages;
+#[cfg(test)]
+mod handed_days;
 #[cfg(test)]
 mod hostile_days;
 #[cfg(test)]

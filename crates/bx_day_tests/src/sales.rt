@@ -47,7 +47,7 @@ fn are_answered(alloc: Global, exchange: &mut Exchange) -> bool {
 }
 
 /// Whether both have the same channels, by what holds them.
-fn hold_the_same(one: &Exchange, other: &Exchange) -> bool {
+pub(crate) fn hold_the_same(one: &Exchange, other: &Exchange) -> bool {
     let mut same = one.moment() == other.moment();
     for number in 1..4 {
         if let Some(channel) = Channel::new(number) {

@@ -96,7 +96,7 @@ pub(crate) fn long_script(alloc: Global, rows: u32, last: &str) -> Result<Vec<u8
 
 #[test]
 fn one_row_too_many(rt: HostRuntime) -> Result<(), Fail> {
-    let text = long_script(rt.alloc(), 4000, "no row\n")?;
+    let text = long_script(rt.alloc(), 16000, "no row\n")?;
     assert!(rt; is_refused(rt.alloc(), &text, "S4 TooMany"), "one more");
     Ok(())
 }

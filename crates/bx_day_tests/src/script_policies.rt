@@ -54,7 +54,7 @@ fn policies_of_a_script(rt: HostRuntime) {
 
 #[test]
 fn as_many_rows_as_fit(rt: HostRuntime) -> Result<(), Fail> {
-    let text = long_script(rt.alloc(), 3999, "*,silent,0\n")?;
+    let text = long_script(rt.alloc(), 15999, "*,silent,0\n")?;
     assert!(rt;
         reads_and_does(rt.alloc(), &text, "", Policy::Silent),
         "as many"

@@ -13,28 +13,28 @@ use Rattle.bx_market.proofs.Totals.{all_of, total, marked, sum_below-first}
 
 pub eligible_count : (moment count : ℕ) (batch : List Row) → length (eligible_marks moment count batch) ≡ length batch
 eligible_count moment count [] = refl
-eligible_count moment count (row ∷ batch) = omega (arith, eligible_count moment (cond (ltb moment row.start && ltb count 4000) (count + 1) count) batch)
+eligible_count moment count (row ∷ batch) = omega (arith, eligible_count moment (cond (ltb moment row.start && ltb count 16000) (count + 1) count) batch)
 
 -- each of them starts later
 pub eligible_later : (moment count : ℕ) (batch : List Row) (i : ℕ) → is_in (eligible_marks moment count batch) i ≡ true → moment < (row_at batch i).start
 eligible_later moment count [] i h = absurd (true≢false (sym h ∙ get_or_past [] i false (omega arith)))
-eligible_later moment count (row ∷ batch) zero h = ltb-true moment row.start (and_parts (ltb moment row.start) (ltb count 4000) h).0
-eligible_later moment count (row ∷ batch) (suc i) h = eligible_later moment (cond (ltb moment row.start && ltb count 4000) (count + 1) count) batch i h
+eligible_later moment count (row ∷ batch) zero h = ltb-true moment row.start (and_parts (ltb moment row.start) (ltb count 16000) h).0
+eligible_later moment count (row ∷ batch) (suc i) h = eligible_later moment (cond (ltb moment row.start && ltb count 16000) (count + 1) count) batch i h
 
 -- how many of the first are marked
 abbrev pub marked_before : List Bool → ℕ → ℕ
 marked_before marks n = sum_below n (λ i. cond (is_in marks i) 1 0)
 
-one_first : (moment count : ℕ) (start : ℕ) (n rest : ℕ) (b : Bool) → (ltb moment start && ltb count 4000) ≡ b → n ≡ cond b 1 0 + rest → cond b (count + 1) count + rest < 4000 → count + n < 4000
+one_first : (moment count : ℕ) (start : ℕ) (n rest : ℕ) (b : Bool) → (ltb moment start && ltb count 16000) ≡ b → n ≡ cond b 1 0 + rest → cond b (count + 1) count + rest < 16000 → count + n < 16000
 one_first moment count start n rest true e is lt = omega (arith, is, lt)
 one_first moment count start n rest false e is lt = omega (arith, is, lt)
 
 -- the day has a place for each, after those before it
-pub eligible_places : (moment count : ℕ) (batch : List Row) (i : ℕ) → is_in (eligible_marks moment count batch) i ≡ true → count + marked_before (eligible_marks moment count batch) i < 4000
+pub eligible_places : (moment count : ℕ) (batch : List Row) (i : ℕ) → is_in (eligible_marks moment count batch) i ≡ true → count + marked_before (eligible_marks moment count batch) i < 16000
 eligible_places moment count [] i h = absurd (true≢false (sym h ∙ get_or_past [] i false (omega arith)))
-eligible_places moment count (row ∷ batch) zero h = let lt = ltb-true count 4000 (and_parts (ltb moment row.start) (ltb count 4000) h).1 in omega (arith, lt)
+eligible_places moment count (row ∷ batch) zero h = let lt = ltb-true count 16000 (and_parts (ltb moment row.start) (ltb count 16000) h).1 in omega (arith, lt)
 eligible_places moment count (row ∷ batch) (suc i) h =
-    let b = ltb moment row.start && ltb count 4000 in
+    let b = ltb moment row.start && ltb count 16000 in
     let next = cond b (count + 1) count in
     let marks = eligible_marks moment next batch in
     let first : marked_before (b ∷ marks) (suc i) ≡ cond b 1 0 + marked_before marks i = sum_below-first i (λ k. cond (is_in (b ∷ marks) k) 1 0) in

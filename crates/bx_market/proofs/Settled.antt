@@ -132,7 +132,7 @@ module _ (channels : List Bool) (d : Day) (batch : List Row) (chosen : List Bool
           }
 
       -- and has a place
-      next_has_place : length d1.entries < 4000
+      next_has_place : length d1.entries < 16000
       next_has_place =
           let places = eligible_places d.moment (length d.entries) batch i (best.eligible i in_choice) in
           let few = sum_below-le i (λ k. cond (is_in chosen k) 1 0) (λ k. cond (is_in (eligible_marks d.moment (length d.entries) batch) k) 1 0) (λ k inside. pays_more (is_in chosen k) (is_in (eligible_marks d.moment (length d.entries) batch) k) 1 (best.eligible k)) in

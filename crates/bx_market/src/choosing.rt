@@ -61,7 +61,7 @@ fn eligible_marks(
     Ok(eligible)
 }
 
-/// Adds a booking. There have to be fewer than 4,000, or this is told as memory that ran out.
+/// Adds a booking. There have to be fewer than 16,000, or this is told as memory that ran out.
 fn add(rows: &mut Bookings, booking: Booking) -> Result<(), AllocError>
     ensures { OnOk result (rows.new ≡ rows.old ++ booking ∷ []) }
 {

@@ -9,7 +9,7 @@ ghost use Rattle.bx_market.specs.Offers.{IsOfferSettled, OrOver, why_not, IsOffe
 use crate::choosing::{Choice, choose};
 use crate::market::{Answer, Market};
 use arrayvec::ArrayVec;
-use bx_base::{Booking, Bookings, ChannelSet};
+use bx_base::{Booking, Bookings, ChannelSet, MAX_BOOKINGS};
 use bx_day::Exchange;
 use bx_events::LiveEvent;
 use bx_live::CannotLog;
@@ -111,7 +111,7 @@ fn sell_chosen<W: Market>(
     ensures sold { OrOver W.dealt channels world.old world.new (Filing exchange.old exchange.old batch.now []) (Within (Between exchange.new)) result }
     ensures moment { OnOk result (exchange.new.moment ≡ exchange.old.moment) }
 {
-    let mut answers = ArrayVec::<Answer, 4000>::new();
+    let mut answers = ArrayVec::<Answer, MAX_BOOKINGS>::new();
     let mut is_any_sold = false;
     for index in 0..batch.len() {
         let answered = settle(
@@ -146,7 +146,7 @@ fn tell_of_memory<W: Market>(world: &mut W, exchange: &Exchange, batch: &Booking
     ensures { TellsOfMemory W.dealt world.old world.new exchange.now batch.now }
 {
     let moment = exchange.moment();
-    let mut answers = ArrayVec::<Answer, 4000>::new();
+    let mut answers = ArrayVec::<Answer, MAX_BOOKINGS>::new();
     for index in 0..batch.len() {
         answers.push(unchosen(moment, batch.nth(index)));
     }

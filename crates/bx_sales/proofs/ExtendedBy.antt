@@ -6,15 +6,16 @@ use Rattle.bx_base.specs.Extending.{IsSameBooking, Extends}
 use Rattle.bx_base.specs.Plans.{is_accepted, channel_at}
 use Rattle.bx_events.specs.Events.{LiveEvent}
 use Rattle.bx_day.specs.declared.entry.Entry.{Entry}
+use Rattle.bx_day.specs.Changed.{AreReferredByRow}
 use Rattle.bx_day.specs.Day.{Day, entry_at, entries_from, opening}
 use Rattle.bx_day.specs.Extended.{extended, IsKeptRow, IsExtendedBy}
-use Rattle.bx_day.specs.Invariant.{is_refused}
+use Rattle.bx_day.specs.Invariant.{EntryFits, is_refused}
 use Rattle.bx_day.specs.Outages.{live_day_after}
 use Rattle.bx_day.proofs.Extended.{AreSeats, run_over}
 use Rattle.bx_day.proofs.ExtendedIndex.{standings_size}
-use Rattle.bx_day.proofs.Law.{IsFrame, RunFits, live_run, opening_fits, opening_framed, opening_placed}
+use Rattle.bx_day.proofs.Law.{IsFrame, RunFits, live_run, opening_fits, opening_framed, opening_placed, referred_by_row}
 use Rattle.bx_day.proofs.LongerPlan.{opening_seats, extended_day}
-use Rattle.bx_day.proofs.Once.{decide}
+use Rattle.bx_day.proofs.Once.{decide, each_at}
 use Rattle.bx_day.proofs.OpeningDay.{opening_size}
 
 twice_not : (b : Bool) → not (not b) ≡ b
@@ -63,6 +64,12 @@ module _ (rows : List Row) (channels : List Bool) (assigned : List (Option ℕ))
   pub frame_at : (i : ℕ) → i < length rows → IsFrame (row_at rows i) (slice_index_or assigned i None) (entry_at now.entries i)
   frame_at i lt = fits.framed.0 i lt
 
+  pub each_fits : (i : ℕ) → i < length now.entries → EntryFits now.moment (entry_at now.entries i)
+  each_fits i lt = each_at (EntryFits now.moment) now.entries i lt fits.day.each
+
+  pub referred_now : AreReferredByRow now.entries
+  referred_now = referred_by_row rows assigned now fits
+
   module _ (rows' : List Row) (assigned' : List (Option ℕ)) where
     kept_channel : (t : ℕ) (e : Entry) (b b' : Row) (a a' : Option ℕ) → IsFrame b a e → IsKeptRow t e b' a' → b.start < t + 1 → a' ≡ a
     kept_channel t e b b' a a' f k early = decide (is_refused e.standing)
@@ -92,6 +99,7 @@ module _ (rows : List Row) (channels : List Bool) (assigned : List (Option ℕ))
           let e = entry_at now.entries i in
           record {
             same = subst (λ (b : Row). IsSameBooking b (row_at rows' i)) (sym f.booking) (h.same i lt);
+            reference = referred_now i inside;
             accepted = h.accepted i lt ∙ sym (twice_not (is_accepted assigned i)) ∙ ap not (sym f.accepted);
             channel = λ accepted early. (
                 let start : e.booking.start ≡ (row_at rows i).start = ap (λ (x : Row). x.start) f.booking in

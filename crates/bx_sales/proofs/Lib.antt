@@ -3,6 +3,10 @@ mod Told
 pub mod Journal
 mod ExtendedBy
 mod Sales
+mod Changes
+mod Firsts
+pub mod StayingFirst
+pub mod Beside
 pub mod Fitting
 pub mod Rows
 pub mod OneMore

@@ -4,3 +4,8 @@ pub mod Journal
 pub mod Sales
 pub mod FreeChannels
 pub mod Laws
+pub mod Changes
+pub mod Firsts
+pub mod Changing
+pub mod StayingFirst
+pub mod Recolouring

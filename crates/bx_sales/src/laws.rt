@@ -1,7 +1,10 @@
 //! Laws of a day on which bookings are sold.
 
 ghost use Rattle.bx_sales.specs.Journal.{IsToldByJournal, AreRowsSold};
+ghost use Rattle.bx_sales.specs.StayingFirst.{StaysFirstFitChanged};
 ghost use Rattle.bx_sales.specs.Sold.{IsFirstFitSold, IsToldByLog, StaysFirstFit};
+ghost use Rattle.bx_sales.specs.Changes.{IsDayOfChangedPlan, IsSentTheSame, IsDayOfLastChange, HasBookingsAtLast, IsLastChangeCarried};
+ghost use Rattle.bx_sales.specs.Firsts.{IsFirstFitChanged};
 ghost use Rattle.bx_sales.specs.Laws.{IsExtendedUpTo, HasSameSentUpTo, IsExtensionTested, GoesOnAsLonger, IsDayOfLastPlan, HasBookingsLast, IsLastPlanCarried};
 
 /// The journal tells the day: where the plan of the morning is first fit, a day that went through events and sales, in whatever order,
@@ -49,4 +52,30 @@ pub fn day_of_the_last_plan()
     ensures day { IsDayOfLastPlan }
     ensures bookings { HasBookingsLast }
     ensures carried { IsLastPlanCarried }
+{}
+
+/// The day so far depends on what has begun alone. Whatever plan agrees with the day: after the same events its day is this one, changed
+/// (`day`), and at each of them the same was sent (`sent`). A plan agrees where each booking that was live, or whose end has come, stands there as it was, but
+/// for an end that is yet to come in both; where whatever else it accepts starts later than now, or waits as it does; and where new ones start later.
+/// So a booking may be sold, given up, changed or moved, and a call that is up may get another end, while the day runs: it is the day of its
+/// last plan, and each law of a day holds of it. However often that happens (`last`, `bookings`, `carried`).
+pub fn day_of_a_changed_plan()
+    ensures day { IsDayOfChangedPlan }
+    ensures sent { IsSentTheSame }
+    ensures last { IsDayOfLastChange }
+    ensures bookings { HasBookingsAtLast }
+    ensures carried { IsLastChangeCarried }
+{}
+
+/// A day whose plan is first fit goes on with the first-fit plan of its bookings as they are changed, all coloured anew: where the same ones are
+/// accepted that start by now, each as it was, but for an end that is yet to come in both. What starts later may have other channels to choose from. So no
+/// sale, no change, no booking that is given up before its start, no channel that is taken out and no other end of a call that is up moves what has begun.
+pub fn first_fit_is_changed()
+    ensures { IsFirstFitChanged }
+{}
+
+/// The day of a first-fit plan stays one by each booking that is given up and each other end, and on it neither is refused as `OtherChannels`: a
+/// booking is given up just where its start has not come, and gets another end just where all fit on the channels, unless memory runs out.
+pub fn first_fit_stays_changed()
+    ensures { StaysFirstFitChanged }
 {}

@@ -1,6 +1,7 @@
 //! The bookings of a day, with one more.
 
-ghost use Rattle.std.specs.Prelude.{◌≡◌, ◌++◌, ◌∷◌, [], not, true, map, length, ◌≤◌, Err, IfOk};
+ghost use Rattle.std.specs.Prelude.{◌≡◌, ◌++◌, ◌∷◌, [], not, true, false, map, length, ◌≤◌, ◌<◌, Err, IfOk, slice_set};
+ghost use Rattle.bx_base.specs.Bookings.{row_at};
 ghost use Rattle.bx_base.specs.declared.bookings.TheConstants.{MAX_BOOKINGS};
 ghost use Rattle.bx_day.specs.Invariant.{is_refused};
 
@@ -34,6 +35,78 @@ pub(crate) fn marks_with(alloc: Global, entries: &[Entry]) -> Result<Vec<bool>, 
         marks.push(is_accepted(entries[index].standing))?;
     }
     marks.push(true)?;
+    Ok(marks)
+}
+
+/// The bookings of these entries. There have to be 16,000 at most, or this is told as memory that ran out.
+pub(crate) fn rows_of(alloc: Global, entries: &[Entry]) -> Result<Bookings, AllocError>
+    ensures { IfOk result (λ b. b ≡ map (λ e. e.booking) entries.now) }
+{
+    let mut rows = Bookings::new(alloc);
+    for index in 0..entries.len() {
+        if rows.push(entries[index].booking).is_err() {
+            return Err(AllocError);
+        }
+    }
+    Ok(rows)
+}
+
+/// The booking at a place, where another one stands in this place.
+fn row_there(entries: &[Entry], index: usize, place: usize, booking: Booking) -> Booking
+    requires { index < length entries.now }
+    ensures { result ≡ row_at (slice_set (map (λ e. e.booking) entries.now) place booking) index }
+{
+    if index == place {
+        booking
+    } else {
+        entries[index].booking
+    }
+}
+
+/// The bookings of these entries, with another one in this place.
+pub(crate) fn rows_changed(
+    alloc: Global,
+    entries: &[Entry],
+    place: usize,
+    booking: Booking,
+) -> Result<Bookings, AllocError>
+    ensures { IfOk result (λ b. b ≡ slice_set (map (λ e. e.booking) entries.now) place booking) }
+{
+    let mut rows = Bookings::new(alloc);
+    for index in 0..entries.len() {
+        if rows
+            .push(row_there(entries, index, place, booking))
+            .is_err()
+        {
+            return Err(AllocError);
+        }
+    }
+    Ok(rows)
+}
+
+/// Which of these are accepted.
+pub(crate) fn marks_of(alloc: Global, entries: &[Entry]) -> Result<Vec<bool>, AllocError>
+    ensures { IfOk result (λ v. v.items ≡ map (λ e. not (is_refused e.standing)) entries.now) }
+{
+    let mut marks = Vec::new(alloc);
+    for index in 0..entries.len() {
+        let is_marked = is_accepted(entries[index].standing);
+        marks.push(is_marked)?;
+    }
+    Ok(marks)
+}
+
+/// The same, but for the one in this place, which is not.
+pub(crate) fn marks_without(
+    alloc: Global,
+    entries: &[Entry],
+    place: usize,
+) -> Result<Vec<bool>, AllocError>
+    requires { place < length entries.now }
+    ensures { IfOk result (λ v. v.items ≡ slice_set (map (λ e. not (is_refused e.standing)) entries.now) place false) }
+{
+    let mut marks = marks_of(alloc, entries)?;
+    marks[place] = false;
     Ok(marks)
 }
 

@@ -19,7 +19,7 @@ pub enum NoSale {
     /// It starts by now.
     #[error("Late")]
     Late,
-    /// The day has 4,000 bookings.
+    /// The day has 16,000 bookings.
     #[error("Full")]
     Full,
     /// At some moment it and what is promised are more than there are channels.

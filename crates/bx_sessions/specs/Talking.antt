@@ -7,12 +7,13 @@ use Rattle.bx_frames.specs.Talks.{Talk, stop, with_events, turn_in}
 use Rattle.bx_day.specs.Course.{exchange_next}
 use Rattle.bx_link.specs.Talking.{follow_talk}
 use Rattle.bx_frames.specs.declared.frame.Receiver.TheVariants.{Exchange}
+use Rattle.bx_frames.specs.declared.turn.TheConstants.{MAX_MESSAGES}
 
 -- ---- the exchange
 
 -- what it hears when its turn is open
 abbrev pub exchange_turn : Day → List ℕ → Talk
-exchange_turn d text = turn_in Exchange d.moment 64 text
+exchange_turn d text = turn_in Exchange d.moment MAX_MESSAGES text
 
 -- so many turns from a day on, each opened by a tick
 unfoldable pub talk_in : ℕ → Day → List ℕ → Talk

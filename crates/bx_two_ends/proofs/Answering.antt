@@ -23,7 +23,7 @@ use Rattle.bx_calls.specs.declared.net_state.NetState.{NetState}
 use Rattle.bx_calls.specs.declared.net_state.NetState.TheVariants.{OutgoingCallProceeding, CallPresent, IncomingCallProceeding, CallReceived, Active, Enquiring, DisconnectIndication, ReleaseRequest}
 use Rattle.bx_calls.specs.declared.transition.Transition.{Transition}
 use Rattle.bx_base.specs.Bookings.{Row}
-use Rattle.bx_two_ends.specs.Answering.{said_by, said_read, said_in_octets, tells, is_told, is_connect, is_release, clears_by, is_ringing_in, is_ringing, is_clearing, is_enquired, contradicts, Spares, SparesAll, Answers}
+use Rattle.bx_two_ends.specs.Answering.{said_by, said_read, said_in_octets, tells, is_told, is_connect, is_release, clears_by, is_ringing_in, is_ringing, is_clearing, is_enquired, contradicts, Spares, SparesAll, Answers, Clears as ClearsTurn}
 use Rattle.bx_two_ends.specs.Asking.{is_asked}
 use Rattle.bx_day.specs.Day.{Day, entry_at, is_live, no_entry}
 use Rattle.bx_two_ends.specs.Earning.{heard_in, is_settled, is_settled_in, is_going, IsAllAnswered}
@@ -42,6 +42,7 @@ use Rattle.bx_day.specs.Day.{is_unoffered}
 use Rattle.bx_day.specs.Invariant.{StandingFits}
 use Rattle.std.proofs.lemmas.List.{get_or-set_same}
 use Rattle.bx_day.proofs.Hear.{heard_by}
+use Rattle.bx_day.proofs.Law.{referred_by_row}
 use Rattle.bx_day.proofs.Once.{decide}
 use Rattle.bx_day.proofs.Receive.{open_parts, takes_fits}
 use Rattle.bx_two_ends.proofs.Naming.{IsNamedOnce, names_live, live_inside, named_found, set_at, once_heard, once_taken}
@@ -275,7 +276,7 @@ pub heard_here : (rows : List Row) (assigned : List (Option ℕ)) (t : ℕ) (d :
 heard_here rows assigned t d octets i m h is named =
     let y : Entry = with_standing (entry_at d.entries i) (hears m d.moment (standing_at d i)).standing in
     let lt = live_inside d.entries i (names_live m (standing_at d i) named) in
-    ap (λ (x : Answered Day). entry_at x.day.entries i) (said_day d octets ∙ ap (receive_said d) is ∙ ap (received_at d m) (named_found d i m h.exchange h.once named))
+    ap (λ (x : Answered Day). entry_at x.day.entries i) (said_day d octets ∙ ap (receive_said d) is ∙ ap (received_at d m) (named_found d i m h.exchange (referred_by_row rows assigned d h.turn.fits) h.once named))
     ∙ get_or-set_same d.entries i y no_entry lt
     ∙ ap (λ n. with_standing (entry_at d.entries i) (hears m n (standing_at d i)).standing) h.turn.moment
 
@@ -569,17 +570,17 @@ going_or (OnCall c a) g = inr (at (net_is_clearing c.state) g)
     at false x = absurd (true≢false x)
 going_or s g = inl refl
 
--- what a turn leaves of each booking
-record IsLeft (called left : Day) (i : ℕ) : Type 0 where
-  settled : OnLive (standing_at left i) (λ call a. is_settled call ≡ true)
-  kept : is_going (standing_at called i) ≡ true → is_live (standing_at left i) ≡ true
+-- what a turn leaves of each booking, where its call is connected if it rings
+pub record IsLeft (called left : Day) (i : ℕ) : Type 0 where
+  pub settled : OnLive (standing_at left i) (λ call a. is_settled call ≡ true)
+  pub kept : is_going (standing_at called i) ≡ true → is_live (standing_at left i) ≡ true
 
-left_at : (rows : List Row) (assigned : List (Option ℕ)) (t i : ℕ) (received : List (List ℕ)) (d : Day) → IsHearing rows assigned t d → Answers d received → is_third_call (standing_at d i) ≡ false → IsLeft d (heard_in received d) i
-left_at rows assigned t i received d h ok third = decide (is_going (standing_at d i))
-    (λ going. going_left (going_all rows assigned t i (entry_at d.entries i) received d h ok.clears.spared
-    (decide (is_ringing (standing_at d i)) (λ rings. Rings rings (λ m. refl) (ok.connected i rings)) (λ quiet. decide (is_enquired (standing_at d i)) (λ asked. Asked asked (λ m. refl) (ok.clears.awake i asked)) (λ calm. Settled (settled_of (standing_at d i) going quiet (unsettled_from (standing_at d i) third calm)))))))
-    (λ other. passing_left other (passing_all rows assigned t i (entry_at d.entries i) received d h ok.clears.spared
-    (elim (going_or (standing_at d i) other) [ inl idle ↦ Idle idle | inr clearing ↦ Clears clearing (λ m. refl) (ok.clears.released i clearing) ])))
+pub left_at : (rows : List Row) (assigned : List (Option ℕ)) (t i : ℕ) (received : List (List ℕ)) (d : Day) → IsHearing rows assigned t d → ClearsTurn d received → (is_ringing (standing_at d i) ≡ true → is_told (λ m. is_connect m.kind) (entry_at d.entries i) received ≡ true) → is_third_call (standing_at d i) ≡ false → IsLeft d (heard_in received d) i
+left_at rows assigned t i received d h clears connected third = decide (is_going (standing_at d i))
+    (λ going. going_left (going_all rows assigned t i (entry_at d.entries i) received d h clears.spared
+    (decide (is_ringing (standing_at d i)) (λ rings. Rings rings (λ m. refl) (connected rings)) (λ quiet. decide (is_enquired (standing_at d i)) (λ asked. Asked asked (λ m. refl) (clears.awake i asked)) (λ calm. Settled (settled_of (standing_at d i) going quiet (unsettled_from (standing_at d i) third calm)))))))
+    (λ other. passing_left other (passing_all rows assigned t i (entry_at d.entries i) received d h clears.spared
+    (elim (going_or (standing_at d i) other) [ inl idle ↦ Idle idle | inr clearing ↦ Clears clearing (λ m. refl) (clears.released i clearing) ])))
   where
     left : Day
     left = heard_in received d
@@ -596,8 +597,8 @@ left_at rows assigned t i received d h ok third = decide (is_going (standing_at 
 
 pub turn_answered : (rows : List Row) (assigned : List (Option ℕ)) (t : ℕ) (received : List (List ℕ)) (d : Day) → IsHearing rows assigned t d → Answers d received → ((i : ℕ) → is_third_call (standing_at d i) ≡ false) → IsAllAnswered d (heard_in received d)
 turn_answered rows assigned t received d h ok third = record {
-  settled = λ i. (left_at rows assigned t i received d h ok (third i)).settled;
-  kept = λ i going. (left_at rows assigned t i received d h ok (third i)).kept going;
+  settled = λ i. (left_at rows assigned t i received d h ok.clears (ok.connected i) (third i)).settled;
+  kept = λ i going. (left_at rows assigned t i received d h ok.clears (ok.connected i) (third i)).kept going;
 }
 
 pub all_heard : (rows : List Row) (assigned : List (Option ℕ)) (t : ℕ) (received : List (List ℕ)) (d : Day) → IsHearing rows assigned t d → IsHearing rows assigned t (heard_in received d)

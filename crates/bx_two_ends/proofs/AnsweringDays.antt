@@ -12,11 +12,12 @@ use Rattle.bx_calls.specs.declared.net_state.NetOrigin.{NetOrigin}
 use Rattle.bx_calls.specs.declared.net_state.NetState.{NetState}
 use Rattle.bx_calls.specs.declared.net_state.NetState.TheVariants.{OutgoingCallProceeding, CallPresent, IncomingCallProceeding, CallReceived, Active, Enquiring, DisconnectIndication, ReleaseRequest}
 use Rattle.bx_calls.specs.declared.transition.Transition.{Transition}
-use Rattle.bx_two_ends.specs.Answering.{Clears, Answers, EachHeard, ClearsAll, AnswersAll}
+use Rattle.bx_two_ends.specs.Answering.{is_connect, is_ringing, is_told, Clears, Answers, EachHeard, ClearsAll, AnswersAll}
 use Rattle.bx_two_ends.proofs.Sparing.{turn_cleared}
 use Rattle.bx_day.specs.Day.{is_back, Day, entry_of, entries_from, entry_at, is_free, is_live, opening}
 use Rattle.bx_two_ends.specs.Earning.{LiveSecond, Linked, Unlinked, heard_in, second_after, AreAnswered, IsAllAnswered, IsCleared, EachTurn, AreCleared}
 use Rattle.bx_day.specs.Moves.{follows}
+use Rattle.bx_day.specs.Law.{standing_at}
 use Rattle.bx_day.specs.Outages.{without_link}
 use Rattle.bx_day.specs.Reading.{IsExchange}
 use Rattle.bx_day.specs.Ticks.{second_at, waits, passed_in}
@@ -28,7 +29,7 @@ use Rattle.bx_day.specs.declared.entry.Link.TheVariants.{Up, Down}
 use Rattle.bx_day.specs.declared.entry.Moved.{Moved}
 use Rattle.bx_day.specs.declared.entry.Standing.{Standing}
 use Rattle.bx_day.specs.declared.entry.Standing.TheVariants.{Unoffered, OnCall}
-use Rattle.bx_two_ends.proofs.Answering.{is_third_call, IsHearing, turn_answered, all_heard}
+use Rattle.bx_two_ends.proofs.Answering.{is_third_call, IsHearing, IsLeft, left_at, turn_answered, all_heard}
 use Rattle.bx_two_ends.proofs.Naming.{IsNamedOnce, names_live, once_second}
 use Rattle.bx_two_ends.proofs.Calm.{IsCalm, called_turn, calm_linked, calm_unlinked, without_is, after_standing, day_linked, linked_turn, answered_cleared}
 use Rattle.bx_two_ends.proofs.EarnedDays.{opening_calm}
@@ -75,20 +76,20 @@ other_tick t e back free s = refl
 
 -- ---- all seconds
 
-record IsBetween (rows : List Row) (assigned : List (Option ℕ)) (d : Day) : Type 0 where
-  calm : IsCalm rows assigned d
-  exchange : IsExchange d
-  once : IsNamedOnce d
+pub record IsBetween (rows : List Row) (assigned : List (Option ℕ)) (d : Day) : Type 0 where
+  pub calm : IsCalm rows assigned d
+  pub exchange : IsExchange d
+  pub once : IsNamedOnce d
 
 hearing_at : (rows : List Row) (assigned : List (Option ℕ)) (d : Day) → d.moment < 300000 → IsBetween rows assigned d → IsHearing rows assigned (d.moment + 1) (passed_in Up d).day
 hearing_at rows assigned d early h = record { turn = called_turn rows assigned d early h.calm; exchange = passed_stays Up d early h.exchange; once = once_second Up d h.once }
 
-linked_between : (rows : List Row) (assigned : List (Option ℕ)) (d : Day) (received : List (List ℕ)) → d.moment < 300000 → IsBetween rows assigned d → IsCleared (passed_in Up d).day (heard_in received (passed_in Up d).day) → IsBetween rows assigned (heard_in received (passed_in Up d).day)
+pub linked_between : (rows : List Row) (assigned : List (Option ℕ)) (d : Day) (received : List (List ℕ)) → d.moment < 300000 → IsBetween rows assigned d → IsCleared (passed_in Up d).day (heard_in received (passed_in Up d).day) → IsBetween rows assigned (heard_in received (passed_in Up d).day)
 linked_between rows assigned d received early h ok =
     let last = all_heard rows assigned (d.moment + 1) received (passed_in Up d).day (hearing_at rows assigned d early h) in
     record { calm = calm_linked rows assigned d received early h.calm ok; exchange = last.exchange; once = last.once }
 
-unlinked_between : (rows : List Row) (assigned : List (Option ℕ)) (d : Day) → d.moment < 300000 → IsBetween rows assigned d → IsBetween rows assigned (passed_in Down d).day
+pub unlinked_between : (rows : List Row) (assigned : List (Option ℕ)) (d : Day) → d.moment < 300000 → IsBetween rows assigned d → IsBetween rows assigned (passed_in Down d).day
 unlinked_between rows assigned d early h = record { calm = calm_unlinked rows assigned d early h.calm; exchange = passed_stays Down d early h.exchange; once = once_second Down d h.once }
 
 -- what each turn does, where what is heard in it does so
@@ -112,7 +113,11 @@ each_run rows assigned P Q f g (Unlinked ∷ ss) d h ok few =
 answered_turn : (rows : List Row) (assigned : List (Option ℕ)) (d : Day) (received : List (List ℕ)) → d.moment < 300000 → IsBetween rows assigned d → Answers (passed_in Up d).day received → IsAllAnswered (passed_in Up d).day (heard_in received (passed_in Up d).day)
 answered_turn rows assigned d received early h ok = turn_answered rows assigned (d.moment + 1) received (passed_in Up d).day (hearing_at rows assigned d early h) ok (λ j. let e = entry_at d.entries j in subst IsOther (sym (after_standing Up d j)) (other_tick (d.moment + 1) e (is_back d) (is_free d e.channel) e.standing))
 
-cleared_turn : (rows : List Row) (assigned : List (Option ℕ)) (d : Day) (received : List (List ℕ)) → d.moment < 300000 → IsBetween rows assigned d → Clears (passed_in Up d).day received → IsCleared (passed_in Up d).day (heard_in received (passed_in Up d).day)
+-- a booking whose call is connected, if it rings
+pub left_turn : (rows : List Row) (assigned : List (Option ℕ)) (d : Day) (received : List (List ℕ)) (i : ℕ) → d.moment < 300000 → IsBetween rows assigned d → Clears (passed_in Up d).day received → (is_ringing (standing_at (passed_in Up d).day i) ≡ true → is_told (λ m. is_connect m.kind) (entry_at (passed_in Up d).day.entries i) received ≡ true) → IsLeft (passed_in Up d).day (heard_in received (passed_in Up d).day) i
+left_turn rows assigned d received i early h clears connected = left_at rows assigned (d.moment + 1) i received (passed_in Up d).day (hearing_at rows assigned d early h) clears connected (let e = entry_at d.entries i in subst IsOther (sym (after_standing Up d i)) (other_tick (d.moment + 1) e (is_back d) (is_free d e.channel) e.standing))
+
+pub cleared_turn : (rows : List Row) (assigned : List (Option ℕ)) (d : Day) (received : List (List ℕ)) → d.moment < 300000 → IsBetween rows assigned d → Clears (passed_in Up d).day received → IsCleared (passed_in Up d).day (heard_in received (passed_in Up d).day)
 cleared_turn rows assigned d received early h ok = turn_cleared rows assigned (d.moment + 1) received (passed_in Up d).day (hearing_at rows assigned d early h) ok
 
 -- at the opening none is live
@@ -127,7 +132,7 @@ idle_at k (b ∷ bs) [] (suc j) = idle_at (k + 1) bs [] j
 idle_at k (b ∷ bs) (a ∷ as') zero = idle_of k b a
 idle_at k (b ∷ bs) (a ∷ as') (suc j) = idle_at (k + 1) bs as' j
 
-opening_between : (rows : List Row) (channels : List Bool) (assigned : List (Option ℕ)) → AreBookings rows → IsChannelSet channels → Carries rows channels (is_accepted assigned) (channel_at assigned) → IsBetween rows assigned (opening rows assigned)
+pub opening_between : (rows : List Row) (channels : List Bool) (assigned : List (Option ℕ)) → AreBookings rows → IsChannelSet channels → Carries rows channels (is_accepted assigned) (channel_at assigned) → IsBetween rows assigned (opening rows assigned)
 opening_between rows channels assigned b set h = record {
   calm = opening_calm rows channels assigned b h;
   exchange = opening_is rows channels assigned b set h;

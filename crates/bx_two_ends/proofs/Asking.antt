@@ -1,7 +1,7 @@
 -- A call that is asked for in vain is not Active for long, and without an outage none is touched.
-use Rattle.std.proofs.Common.{◌≡◌, ℕ, zero, suc, ◌+◌, ◌≤◌, ◌<◌, Bool, true, false, List, [], ◌∷◌, map, Option, Some, None, arith, refl, sym, ap, subst, ◌∙◌, not, ◌&&◌, nat_le, nat_lt, Result, Ok, Err, ◌==◌, ◌||◌, if◌then◌else◌}
+use Rattle.std.proofs.Common.{◌≡◌, ℕ, zero, suc, ◌+◌, ◌≤◌, ◌<◌, Bool, true, false, List, [], ◌∷◌, map, Option, Some, None, arith, refl, sym, ap, subst, ◌∙◌, not, ◌&&◌, nat_le, Result, Ok, Err, ◌==◌, ◌||◌, if◌then◌else◌}
 use Rattle.std.specs.List.{AllByRecursion, position}
-use Rattle.std.proofs.lemmas.Bool.{leb-false, true≢false, false≢true}
+use Rattle.std.proofs.lemmas.Bool.{leb-false, true≢false, false≢true, eqb-true, false_from_ne_true}
 use Rattle.bx_q931.specs.Messages.{PlainMessage, message_at}
 use Rattle.bx_q931.specs.declared.fault.MessageFault.{MessageFault}
 use Rattle.bx_q931.specs.declared.kind.Kind.{Kind}
@@ -301,10 +301,13 @@ tick_untouched t e free (OnCall c a) h = second_untouched c c.state a t e.bookin
 tick_untouched t e free Unoffered h = waits_untouched t e free
 tick_untouched t e free s h = tt
 
+never_now : (t : ℕ) → (0 == t + 1) ≡ false
+never_now t = false_from_ne_true (0 == t + 1) (λ same. let q : 0 ≡ t + 1 = eqb-true 0 (t + 1) same in absurd (omega (arith, q)))
+
 up_untouched : (d : Day) (es : List Entry) → d.unlinked ≡ 0 → AllByRecursion EntryUntouched es → AllByRecursion EntryUntouched (map (after_in Up d) es)
 up_untouched d [] never h = tt
 up_untouched d (e ∷ es) never h = (
-  subst (λ b. StandingUntouched (second_at e (d.moment + 1) b (is_free d e.channel) e.standing).standing) (sym (ap (λ n. nat_lt 0 n && (n == d.moment)) never)) (tick_untouched (d.moment + 1) e (is_free d e.channel) e.standing h.0),
+  subst (λ b. StandingUntouched (second_at e (d.moment + 1) b (is_free d e.channel) e.standing).standing) (sym (ap (λ n. n == d.moment + 1) never ∙ never_now d.moment)) (tick_untouched (d.moment + 1) e (is_free d e.channel) e.standing h.0),
   up_untouched d es never h.1,
 )
 

@@ -131,13 +131,13 @@ following d received = heard_in received (passed_in Up d).day
 
 -- ---- a second with a link: the booking of index i
 
-record IsLink (rows : List Row) (assigned : List (Option ℕ)) (i : ℕ) (d : Day) (received : List (List ℕ)) : Type 0 where
-  inside : i < length rows
-  fits : RunFits rows assigned d
-  quiet : IsQuietCall (standing_at d i)
-  first : IsTurn rows assigned (d.moment + 1) (passed_in Up d).day
-  last : IsTurn rows assigned (d.moment + 1) (following d received)
-  ok : IsCleared (passed_in Up d).day (following d received)
+pub record IsLink (rows : List Row) (assigned : List (Option ℕ)) (i : ℕ) (d : Day) (received : List (List ℕ)) : Type 0 where
+  pub inside : i < length rows
+  pub fits : RunFits rows assigned d
+  pub quiet : IsQuietCall (standing_at d i)
+  pub first : IsTurn rows assigned (d.moment + 1) (passed_in Up d).day
+  pub last : IsTurn rows assigned (d.moment + 1) (following d received)
+  pub ok : IsCleared (passed_in Up d).day (following d received)
 
 -- a call that was Active is Active after the turn, where it goes on after the tick
 link_keeps : (rows : List Row) (assigned : List (Option ℕ)) (i u : ℕ) (d : Day) (received : List (List ℕ)) → IsLink rows assigned i d received → is_going (standing_at (passed_in Up d).day i) ≡ true → IsKept u (standing_at (passed_in Up d).day i) → IsUp u (standing_at (following d received) i)
@@ -202,7 +202,7 @@ link_waits rows assigned i u d received h settled out less le is =
     inl ((heard_waits n i received called refl (outward, waiting)).1, stays))
 
 -- after a turn that no other booking of its channel runs in, nobody else has the channel
-link_free : (rows : List Row) (assigned : List (Option ℕ)) (i cleared offered : ℕ) (d : Day) (received : List (List ℕ)) → IsLink rows assigned i d received → IsAlone rows assigned i cleared offered → cleared ≤ d.moment + 1 → d.moment + 1 ≤ offered → is_held (following d received).entries (channel_at assigned i) ≡ true → is_live (standing_at (following d received) i) ≡ true
+pub link_free : (rows : List Row) (assigned : List (Option ℕ)) (i cleared offered : ℕ) (d : Day) (received : List (List ℕ)) → IsLink rows assigned i d received → IsAlone rows assigned i cleared offered → cleared ≤ d.moment + 1 → d.moment + 1 ≤ offered → is_held (following d received).entries (channel_at assigned i) ≡ true → is_live (standing_at (following d received) i) ≡ true
 link_free rows assigned i cleared offered d received h alone low high held =
     let left : Day = following d received in
     let c = channel_at assigned i in
@@ -224,13 +224,13 @@ link_free rows assigned i cleared offered d received h alone low high held =
 unoffered_up : (u : ℕ) (s : Standing) → s ≡ Unoffered → IsUp u s → ⊥
 unoffered_up u s is up = subst (IsUp u) is up
 
-free_from : (d : Day) (c : ℕ) → is_held d.entries c ≡ false → is_marked d.maintenance c ≡ false → is_free d c ≡ true
+pub free_from : (d : Day) (c : ℕ) → is_held d.entries c ≡ false → is_marked d.maintenance c ≡ false → is_free d c ≡ true
 free_from d c held marked = and_from (not (is_held d.entries c)) (not (is_marked d.maintenance c)) (ap not held) (ap not marked)
 
-offers_from : (e : Entry) (t : ℕ) (free : Bool) → is_running e.booking t ≡ true → e.booking.inward ≡ false → free ≡ true → offers e t free ≡ true
+pub offers_from : (e : Entry) (t : ℕ) (free : Bool) → is_running e.booking t ≡ true → e.booking.inward ≡ false → free ≡ true → offers e t free ≡ true
 offers_from e t free runs out is = and_from (is_running e.booking t && not e.booking.inward) free (and_from (is_running e.booking t) (not e.booking.inward) runs (ap not out)) is
 
-offers_none : (e : Entry) (t : ℕ) → offers e t false ≡ false
+pub offers_none : (e : Entry) (t : ℕ) → offers e t false ≡ false
 offers_none e t = none (is_running e.booking t && not e.booking.inward)
   where
     none : (b : Bool) → (b && false) ≡ false
@@ -250,7 +250,7 @@ link_early rows assigned i cleared offered ended d received b s h settled le =
       | inr up ↦ inr (link_up rows assigned i offered d received h less up)
     ]
 
-unoffered_live : (s : Standing) → s ≡ Unoffered → is_live s ≡ true → ⊥
+pub unoffered_live : (s : Standing) → s ≡ Unoffered → is_live s ≡ true → ⊥
 unoffered_live s is live = false≢true (sym (ap is_live is) ∙ live)
 
 link_offers : (rows : List Row) (assigned : List (Option ℕ)) (i cleared offered ended : ℕ) (d : Day) (received : List (List ℕ)) → IsBooked rows assigned i cleared offered ended → Stands rows assigned i cleared offered ended d → IsLink rows assigned i d received → IsSettledAt (following d received) i → d.moment + 1 ≡ offered → IsUp offered (standing_at (following d received) i)
@@ -308,7 +308,7 @@ down_live d e = unlinked e (d.moment + 1) e.standing (λ m. is_live m.standing �
     was (Offered accepted runs free) = absurd (false≢true free)
 
 -- a channel that is held after it was held before
-down_held : (d : Day) (c : ℕ) → is_held (passed_in Down d).day.entries c ≡ true → is_held d.entries c ≡ true
+pub down_held : (d : Day) (c : ℕ) → is_held (passed_in Down d).day.entries c ≡ true → is_held d.entries c ≡ true
 down_held d c held =
     let p = held_by (passed_in Down d).day.entries c held in
     let q = holds_parts c (entry_at (passed_in Down d).day.entries p.0) p.2 in
@@ -349,7 +349,7 @@ down_stands rows assigned i cleared offered ended d early b s nc nf ne =
 abbrev pub IsDueIn : List LiveSecond → ℕ → ℕ → Type 0
 IsDueIn seconds m t = (t ≤ m) ⊎ (has_link m seconds t ≡ true)
 
-due_after : (s : LiveSecond) (ss : List LiveSecond) (m t : ℕ) → IsDueIn (s ∷ ss) m t → IsDueIn ss (m + 1) t
+pub due_after : (s : LiveSecond) (ss : List LiveSecond) (m t : ℕ) → IsDueIn (s ∷ ss) m t → IsDueIn ss (m + 1) t
 due_after s ss m t (inl le) = inl (omega (arith, le))
 due_after s ss m t (inr h) = at (t == m + 1) refl
   where
@@ -357,7 +357,7 @@ due_after s ss m t (inr h) = at (t == m + 1) refl
     at true is = inl (let same : t ≡ m + 1 = eqb-true t (m + 1) is in omega (arith, same))
     at false is = inr (sym (ap (λ b. if b then is_linked s else has_link (m + 1) ss t) is) ∙ h)
 
-not_due : (ss : List LiveSecond) (m t : ℕ) → IsDueIn (Unlinked ∷ ss) m t → t ≢ m + 1
+pub not_due : (ss : List LiveSecond) (m t : ℕ) → IsDueIn (Unlinked ∷ ss) m t → t ≢ m + 1
 not_due ss m t (inl le) is = omega (arith, le, is)
 not_due ss m t (inr h) is = false≢true (sym (ap (λ b. if b then false else has_link (m + 1) ss t) (eq-eqb t (m + 1) is)) ∙ h)
 

@@ -22,9 +22,9 @@ use Rattle.bx_far.specs.FarDay.{FarDay, holder, is_on, far_tick, far_without_lin
 use Rattle.bx_two_ends.specs.Earning.{heard_in}
 use Rattle.bx_two_ends.specs.Lockstep.{Ends, far_heard, far_says, exchange_says}
 use Rattle.bx_two_ends.specs.LossyLink.{ends_apart}
-use Rattle.bx_two_ends.proofs.OneChannel.{Left, messages_on, NearTicks, near_left, near_outlasts, far_meets_all, far_passes, far_outlasts}
+use Rattle.bx_two_ends.proofs.OneChannel.{Left, messages_on, NearTicks, near_left, near_outlasts, none_waits, far_meets_all_by, far_passes, far_outlasts}
 use Rattle.bx_two_ends.proofs.ChannelMessages.{IsToFar, IsToNear, on_joined}
-use Rattle.bx_two_ends.proofs.ChannelStates.{IsUnbrokenNear, IsUnbrokenFar, IsThere, IsKeptOn, TurnLeaves, asked_in, passed_in_turn, left_in, last_in}
+use Rattle.bx_two_ends.proofs.ChannelStates.{IsUnbrokenNear, IsUnbrokenFar, IsThere, IsKeptOn, TurnLeavesBy, asked_by, passed_by, left_in, last_by}
 use Rattle.bx_two_ends.proofs.FarCalls.{first_found}
 use Rattle.bx_two_ends.proofs.FarChannel.{IsFarOf, FarFits, FarRuns, FarTicksOn, FarOutlasts, far_run, far_tick_on, far_unlinked_on}
 use Rattle.bx_two_ends.proofs.History.{all_joined}
@@ -44,13 +44,17 @@ pub record PairOn (Pairs : ℕ → Option PlainNetCall → Option PlainUserCall 
   pub is : NearIs e.exchange k call
   pub pair : Pairs k call (holder e.far k)
 
-pub record Between (rows : List Row) (assigned : List (Option ℕ)) (Pairs : ℕ → Option PlainNetCall → Option PlainUserCall → Type 0) (t : ℕ) (e : Ends) : Type 0 where
+pub record BetweenBy (wait : Option (List ℕ) → ℕ) (rows : List Row) (assigned : List (Option ℕ)) (Pairs : ℕ → Option PlainNetCall → Option PlainUserCall → Type 0) (t : ℕ) (e : Ends) : Type 0 where
   pub near : NearFits rows assigned t e.exchange
-  pub far : FarFits (chan_of assigned) t e.far
+  pub far : FarFits wait (chan_of assigned) t e.far
   pub pending : AllByRecursion IsToNear e.pending
   pub silent : (k : ℕ) → IsChannel k → messages_on (chan_of assigned) k e.pending ≡ []
   pub pairs : (k : ℕ) → IsChannel k → PairOn Pairs e k
   pub alive : (i : ℕ) → i < length rows → is_accepted assigned i ≡ true → t < (row_at rows i).end → IsAlive (standing_at e.exchange i)
+
+-- the same where none waits
+abbrev pub Between : List Row → List (Option ℕ) → (ℕ → Option PlainNetCall → Option PlainUserCall → Type 0) → ℕ → Ends → Type 0
+Between rows assigned Pairs t e = BetweenBy none_waits rows assigned Pairs t e
 
 -- which of some messages come
 pub record IsComing (chan : ℕ → ℕ) (Comes : List Outgoing → List Outgoing → Type 0) : Type 0 where
@@ -82,9 +86,9 @@ module _ (rows : List Row) (assigned : List (Option ℕ)) where
 
   -- ---- a turn, of whose messages these come
 
-  module _ (Comes : List Outgoing → List Outgoing → Type 0) (coming : IsComing (chan_of assigned) Comes) (Pairs Leaves : ℕ → Option PlainNetCall → Option PlainUserCall → Type 0) (t : ℕ) (e : Ends) (early : t < 300000) (h : Between rows assigned Pairs t e)
+  module _ (wait : Option (List ℕ) → ℕ) (Comes : List Outgoing → List Outgoing → Type 0) (coming : IsComing (chan_of assigned) Comes) (Pairs Leaves : ℕ → Option PlainNetCall → Option PlainUserCall → Type 0) (t : ℕ) (e : Ends) (early : t < 300000) (h : BetweenBy wait rows assigned Pairs t e)
       (unbroken : (k : ℕ) (c : PlainNetCall) (far : Option PlainUserCall) → Pairs k (Some c) far → IsUnbrokenNear (net_second c (t + 1) (ends_of rows c.reference)).next × IsKeptOn (ends_of rows) (t + 1) (Some c) (near_left (net_second c (t + 1) (ends_of rows c.reference)).next))
-      (step : (k : ℕ) (near : Option PlainNetCall) (far : Option PlainUserCall) (called : Left PlainNetCall) (come received replies : List Outgoing) → Pairs k near far → NearTicks (ends_of rows) (is_back e.exchange) k (t + 1) near called → Comes come called.said → Comes received ((asked_in k t far come).said ++ (passed_in_turn k t far come).said) → Comes replies (left_in t called received).said → TurnLeaves (Leaves k) (ends_of rows) k t far called come received replies)
+      (step : (k : ℕ) (near : Option PlainNetCall) (far : Option PlainUserCall) (called : Left PlainNetCall) (come received replies : List Outgoing) → Pairs k near far → NearTicks (ends_of rows) (is_back e.exchange) k (t + 1) near called → Comes come called.said → Comes received ((asked_by wait k t far come).said ++ (passed_by wait k t far come).said) → Comes replies (left_in t called received).said → TurnLeavesBy wait (Leaves k) (ends_of rows) k t far called come received replies)
       (come : List Outgoing) (first : Comes come (tick e.exchange).sent) where
     abbrev Chan : ℕ → ℕ
     Chan = chan_of assigned
@@ -111,8 +115,8 @@ module _ (rows : List Row) (assigned : List (Option ℕ)) where
     pub tick_on : (k : ℕ) (ch : IsChannel k) → TickOn rows assigned t e.exchange (tick e.exchange) k (h.pairs k ch).call
     tick_on k ch = ticked.here k (h.pairs k ch).call ch (h.pairs k ch).is
 
-    called_far : FarRuns Chan t e.far come (far_heard come e.far) (far_says come e.far)
-    called_far = far_run Chan t come e.far (coming.calls come (tick e.exchange).sent first ticked.says) h.far
+    called_far : FarRuns wait Chan t e.far come (far_heard come e.far) (far_says come e.far)
+    called_far = far_run wait Chan t come e.far (coming.calls come (tick e.exchange).sent first ticked.says) h.far
 
     -- what comes on a channel
     come_on : (k : ℕ) (ch : IsChannel k) → Comes (messages_on Chan k come) (tick_on k ch).left.said
@@ -124,12 +128,12 @@ module _ (rows : List Row) (assigned : List (Option ℕ)) where
         let ch : IsChannel k = subst IsChannel (eqb-true x.channel k p.0) p.1.in_service in
         let far = holder e.far k in
         let ck = messages_on Chan k come in
-        let all = (asked_in k t far ck).said ++ (passed_in_turn k t far ck).said in
+        let all = (asked_by wait k t far ck).said ++ (passed_by wait k t far ck).said in
         let called = (tick_on k ch).left in
         (step k (h.pairs k ch).call far called ck all (left_in t called all).said (h.pairs k ch).pair (tick_on k ch).ticks (come_on k ch) (coming.same all) (coming.same (left_in t called all).said)).unbroken x (sym (called_far.held k) ∙ is)
 
-    passed_far : FarTicksOn Chan t F1 (far_tick F1)
-    passed_far = far_tick_on Chan t F1 called_far.fits early far_unbroken
+    passed_far : FarTicksOn wait Chan t F1 (far_tick F1)
+    passed_far = far_tick_on wait Chan t F1 called_far.fits early far_unbroken
 
     -- what the far end says
     abbrev pub answers_all : List Outgoing
@@ -145,28 +149,28 @@ module _ (rows : List Row) (assigned : List (Option ℕ)) where
       abbrev left_ends : Ends
       left_ends = record { exchange = L1; far = F3; pending = far_says replies F2 }
 
-      answers_on : (k : ℕ) (ch : IsChannel k) → messages_on Chan k answers_all ≡ (asked_in k t (holder e.far k) (messages_on Chan k come)).said ++ (passed_in_turn k t (holder e.far k) (messages_on Chan k come)).said
+      answers_on : (k : ℕ) (ch : IsChannel k) → messages_on Chan k answers_all ≡ (asked_by wait k t (holder e.far k) (messages_on Chan k come)).said ++ (passed_by wait k t (holder e.far k) (messages_on Chan k come)).said
       answers_on k ch =
           on_joined Chan k e.pending (far_says come e.far ++ (far_tick F1).sent)
           ∙ ap (λ xs. xs ++ messages_on Chan k (far_says come e.far ++ (far_tick F1).sent)) (h.silent k ch)
           ∙ on_joined Chan k (far_says come e.far) (far_tick F1).sent
           ∙ ap (λ xs. xs ++ messages_on Chan k (far_tick F1).sent) (called_far.said k)
-          ∙ ap (λ xs. (asked_in k t (holder e.far k) (messages_on Chan k come)).said ++ xs) (passed_far.said k ∙ ap (λ v. (far_passes (t + 1) v).said) (called_far.held k))
+          ∙ ap (λ xs. (asked_by wait k t (holder e.far k) (messages_on Chan k come)).said ++ xs) (passed_far.said k ∙ ap (λ v. (far_passes (t + 1) v).said) (called_far.held k))
 
       heard_near : NearRun rows assigned (t + 1) D1 received
       heard_near = near_run rows assigned (t + 1) received D1 ticked.fits (coming.answers received answers_all second (all_joined IsToNear e.pending (far_says come e.far ++ (far_tick F1).sent) h.pending (all_joined IsToNear (far_says come e.far) (far_tick F1).sent called_far.says passed_far.says)))
 
-      last_far : FarRuns Chan (t + 1) F2 replies (far_heard replies F2) (far_says replies F2)
-      last_far = far_run Chan (t + 1) replies F2 (coming.calls replies (exchange_says received D1) third heard_near.says) passed_far.fits
+      last_far : FarRuns wait Chan (t + 1) F2 replies (far_heard replies F2) (far_says replies F2)
+      last_far = far_run wait Chan (t + 1) replies F2 (coming.calls replies (exchange_says received D1) third heard_near.says) passed_far.fits
 
-      turned : (k : ℕ) (ch : IsChannel k) → TurnLeaves (Leaves k) (ends_of rows) k t (holder e.far k) (tick_on k ch).left (messages_on Chan k come) (messages_on Chan k received) (messages_on Chan k replies)
+      turned : (k : ℕ) (ch : IsChannel k) → TurnLeavesBy wait (Leaves k) (ends_of rows) k t (holder e.far k) (tick_on k ch).left (messages_on Chan k come) (messages_on Chan k received) (messages_on Chan k replies)
       turned k ch = step k (h.pairs k ch).call (holder e.far k) (tick_on k ch).left (messages_on Chan k come) (messages_on Chan k received) (messages_on Chan k replies) (h.pairs k ch).pair (tick_on k ch).ticks (come_on k ch)
           (subst (Comes (messages_on Chan k received)) (answers_on k ch) (coming.on k received answers_all second))
           (subst (Comes (messages_on Chan k replies)) (heard_near.said k (tick_on k ch).left.call (tick_on k ch).near) (coming.on k replies (exchange_says received D1) third))
 
       -- what the far end has on a channel after it
-      last_on : (k : ℕ) → far_meets_all (t + 1) k (holder F2 k) (messages_on Chan k replies) ≡ last_in k t (holder e.far k) (messages_on Chan k come) (messages_on Chan k replies)
-      last_on k = ap (λ v. far_meets_all (t + 1) k v (messages_on Chan k replies)) (passed_far.held k ∙ ap (λ v. (far_passes (t + 1) v).call) (called_far.held k))
+      last_on : (k : ℕ) → far_meets_all_by wait (t + 1) k (holder F2 k) (messages_on Chan k replies) ≡ last_by wait k t (holder e.far k) (messages_on Chan k come) (messages_on Chan k replies)
+      last_on k = ap (λ v. far_meets_all_by wait (t + 1) k v (messages_on Chan k replies)) (passed_far.held k ∙ ap (λ v. (far_passes (t + 1) v).call) (called_far.held k))
 
       -- a call that is live after the tick, and whose booking goes on, is so after the turn
       pub kept_live : (i : ℕ) → is_live (standing_at D1 i) ≡ true → t + 1 < (row_at rows i).end → is_live (standing_at L1 i) ≡ true
@@ -202,7 +206,7 @@ module _ (rows : List Row) (assigned : List (Option ℕ)) where
                   subst (λ (z : Left PlainNetCall). IsThere (suc i) z.call) (sym q) (subst (λ r. IsThere r (near_left (net_second x (t + 1) (ends_of rows x.reference)).next)) there w)
           at s is l = absurd (false≢true l)
 
-      pub between_after : Between rows assigned Leaves (t + 1) left_ends
+      pub between_after : BetweenBy wait rows assigned Leaves (t + 1) left_ends
       between_after = record {
         near = heard_near.fits;
         far = last_far.fits;
@@ -224,13 +228,13 @@ module _ (rows : List Row) (assigned : List (Option ℕ)) where
 
   -- ---- a second without a link
 
-  module _ (Pairs Leaves : ℕ → Option PlainNetCall → Option PlainUserCall → Type 0) (t : ℕ) (e : Ends) (early : t < 300000) (h : Between rows assigned Pairs t e)
+  module _ (wait : Option (List ℕ) → ℕ) (Pairs Leaves : ℕ → Option PlainNetCall → Option PlainUserCall → Type 0) (t : ℕ) (e : Ends) (early : t < 300000) (h : BetweenBy wait rows assigned Pairs t e)
       (apart : (k : ℕ) (near : Option PlainNetCall) (far : Option PlainUserCall) → Pairs k near far → Leaves k (near_outlasts (ends_of rows) (t + 1) near) (far_outlasts (t + 1) far) × IsKeptOn (ends_of rows) (t + 1) near (near_outlasts (ends_of rows) (t + 1) near)) where
     near_apart : NearUnlinked rows assigned t e.exchange (without_link e.exchange)
     near_apart = near_unlinked rows assigned t e.exchange h.near early
 
-    far_apart : FarOutlasts (chan_of assigned) t e.far (far_without_link e.far)
-    far_apart = far_unlinked_on (chan_of assigned) t e.far h.far early
+    far_apart : FarOutlasts wait (chan_of assigned) t e.far (far_without_link e.far)
+    far_apart = far_unlinked_on wait (chan_of assigned) t e.far h.far early
 
     live_apart : (i : ℕ) → is_live (standing_at e.exchange i) ≡ true → t + 1 < (row_at rows i).end → is_live (standing_at (ends_apart e).exchange i) ≡ true
     live_apart i live later = at (standing_at e.exchange i) refl live
@@ -251,7 +255,7 @@ module _ (rows : List Row) (assigned : List (Option ℕ)) where
     pub back_apart : is_back (ends_apart e).exchange ≡ true
     back_apart = near_apart.back
 
-    pub between_apart : Between rows assigned Leaves (t + 1) (ends_apart e)
+    pub between_apart : BetweenBy wait rows assigned Leaves (t + 1) (ends_apart e)
     between_apart = record {
       near = near_apart.fits;
       far = far_apart.fits;

@@ -12,7 +12,7 @@ use Rattle.bx_calls.specs.declared.transition.Next.{Next}
 use Rattle.bx_calls.specs.declared.transition.Next.TheVariants.{Broken}
 use Rattle.bx_calls.specs.declared.user_state.UserState.{UserState}
 use Rattle.bx_calls.specs.declared.user_state.UserState.TheVariants as user
-use Rattle.bx_two_ends.proofs.OneChannel.{Left, far_meets_all, far_passes, near_meets_all}
+use Rattle.bx_two_ends.proofs.OneChannel.{Left, none_waits, far_meets_all_by, far_passes, near_meets_all}
 use Rattle.bx_two_ends.proofs.FarTurns.{IsAnswering}
 
 -- ---- a call on channel k that the exchange began, at each end
@@ -163,21 +163,34 @@ IsKeptOn ends t (Some c) after = t < ends c.reference → IsThere c.reference af
 -- ---- a turn from moment t on: the exchange's tick left called, and of what was said these come: to the far end, to the exchange, and to the
 -- far end again
 
-abbrev pub asked_in : ℕ → ℕ → Option PlainUserCall → List Outgoing → Left PlainUserCall
-asked_in k t far come = far_meets_all t k far come
+abbrev pub asked_by : (Option (List ℕ) → ℕ) → ℕ → ℕ → Option PlainUserCall → List Outgoing → Left PlainUserCall
+asked_by wait k t far come = far_meets_all_by wait t k far come
 
-abbrev pub passed_in_turn : ℕ → ℕ → Option PlainUserCall → List Outgoing → Left PlainUserCall
-passed_in_turn k t far come = far_passes (t + 1) (far_meets_all t k far come).call
+abbrev pub passed_by : (Option (List ℕ) → ℕ) → ℕ → ℕ → Option PlainUserCall → List Outgoing → Left PlainUserCall
+passed_by wait k t far come = far_passes (t + 1) (far_meets_all_by wait t k far come).call
 
 abbrev pub left_in : ℕ → Left PlainNetCall → List Outgoing → Left PlainNetCall
 left_in t called received = near_meets_all (t + 1) called.call received
 
-abbrev pub last_in : ℕ → ℕ → Option PlainUserCall → List Outgoing → List Outgoing → Left PlainUserCall
-last_in k t far come replies = far_meets_all (t + 1) k (passed_in_turn k t far come).call replies
+abbrev pub last_by : (Option (List ℕ) → ℕ) → ℕ → ℕ → Option PlainUserCall → List Outgoing → List Outgoing → Left PlainUserCall
+last_by wait k t far come replies = far_meets_all_by wait (t + 1) k (passed_by wait k t far come).call replies
 
-pub record TurnLeaves (Leaves : Option PlainNetCall → Option PlainUserCall → Type 0) (ends : ℕ → ℕ) (k t : ℕ) (far : Option PlainUserCall) (called : Left PlainNetCall) (come received replies : List Outgoing) : Type 0 where
+pub record TurnLeavesBy (wait : Option (List ℕ) → ℕ) (Leaves : Option PlainNetCall → Option PlainUserCall → Type 0) (ends : ℕ → ℕ) (k t : ℕ) (far : Option PlainUserCall) (called : Left PlainNetCall) (come received replies : List Outgoing) : Type 0 where
   -- T308 of the far end does not break a call
-  pub unbroken : (x : PlainUserCall) → (asked_in k t far come).call ≡ Some x → IsUnbrokenFar (user_second x (t + 1)).next
-  pub leaves : Leaves (left_in t called received).call (last_in k t far come replies).call
-  pub quiet : (last_in k t far come replies).said ≡ []
+  pub unbroken : (x : PlainUserCall) → (asked_by wait k t far come).call ≡ Some x → IsUnbrokenFar (user_second x (t + 1)).next
+  pub leaves : Leaves (left_in t called received).call (last_by wait k t far come replies).call
+  pub quiet : (last_by wait k t far come replies).said ≡ []
   pub kept : IsKeptOn ends (t + 1) called.call (left_in t called received).call
+
+-- the same where none waits
+abbrev pub asked_in : ℕ → ℕ → Option PlainUserCall → List Outgoing → Left PlainUserCall
+asked_in k t far come = asked_by none_waits k t far come
+
+abbrev pub passed_in_turn : ℕ → ℕ → Option PlainUserCall → List Outgoing → Left PlainUserCall
+passed_in_turn k t far come = passed_by none_waits k t far come
+
+abbrev pub last_in : ℕ → ℕ → Option PlainUserCall → List Outgoing → List Outgoing → Left PlainUserCall
+last_in k t far come replies = last_by none_waits k t far come replies
+
+abbrev pub TurnLeaves : (Option PlainNetCall → Option PlainUserCall → Type 0) → (ℕ → ℕ) → ℕ → ℕ → Option PlainUserCall → Left PlainNetCall → List Outgoing → List Outgoing → List Outgoing → Type 0
+TurnLeaves Leaves ends k t far called come received replies = TurnLeavesBy none_waits Leaves ends k t far called come received replies

@@ -346,15 +346,15 @@ module _ (ends : ℕ → ℕ) (k u : ℕ) where
 
 -- ---- steps of these calls
 
-abbrev stopped_of : ℕ → Outgoing
+abbrev pub stopped_of : ℕ → Outgoing
 stopped_of r = with_cause network 16 (plain r false Disconnect)
 
-tick_ends : (c : PlainNetCall) (u end : ℕ) → net_is_clearing c.state ≡ false → end ≤ u → net_second c u end ≡ net_disconnects c 16 u
+pub tick_ends : (c : PlainNetCall) (u end : ℕ) → net_is_clearing c.state ≡ false → end ≤ u → net_second c u end ≡ net_disconnects c 16 u
 tick_ends c u end going ended =
     ap (λ b. if not b && nat_le end u then net_disconnects c 16 u else net_timer c u c.state) going
     ∙ ap (λ b. if b then net_disconnects c 16 u else net_timer c u c.state) (le-leb end u ended)
 
-tick_goes : (c : PlainNetCall) (u end : ℕ) → net_is_clearing c.state ≡ false → u < end → net_second c u end ≡ net_timer c u c.state
+pub tick_goes : (c : PlainNetCall) (u end : ℕ) → net_is_clearing c.state ≡ false → u < end → net_second c u end ≡ net_timer c u c.state
 tick_goes c u end going late =
     ap (λ b. if not b && nat_le end u then net_disconnects c 16 u else net_timer c u c.state) going
     ∙ ap (λ b. if b then net_disconnects c 16 u else net_timer c u c.state) (lt-leb end u late)

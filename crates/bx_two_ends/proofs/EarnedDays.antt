@@ -60,7 +60,7 @@ opening_calm rows channels assigned b h = record {
   quiet = λ j. (idle_at 1 rows assigned j).quiet;
 }
 
-opening_stands : (rows : List Row) (channels : List Bool) (assigned : List (Option ℕ)) (i cleared offered ended : ℕ) → AreBookings rows → Carries rows channels (is_accepted assigned) (channel_at assigned) → is_accepted assigned i ≡ true → IsBooked rows assigned i cleared offered ended → Stands rows assigned i cleared offered ended (opening rows assigned)
+pub opening_stands : (rows : List Row) (channels : List Bool) (assigned : List (Option ℕ)) (i cleared offered ended : ℕ) → AreBookings rows → Carries rows channels (is_accepted assigned) (channel_at assigned) → is_accepted assigned i ≡ true → IsBooked rows assigned i cleared offered ended → Stands rows assigned i cleared offered ended (opening rows assigned)
 opening_stands rows channels assigned i cleared offered ended b h accepted k = record {
   calm = opening_calm rows channels assigned b h;
   early = λ less. inl (ap (λ (e : Entry). e.standing) (opening_at 1 (i + 1) rows assigned i (let q : 1 + i ≡ i + 1 = omega arith in q) k.inside) ∙ waits_of (i + 1) (row_at rows i) (slice_index_or assigned i None) accepted);
@@ -111,7 +111,7 @@ in_service rows channels assigned seconds c b h few ok =
     ((calm_run rows assigned seconds (opening rows assigned) (opening_calm rows channels assigned b h) ok (omega (arith, few))).clean c)
 
 -- a second with a link is one of them
-link_inside : (seconds : List LiveSecond) (m t : ℕ) → has_link m seconds t ≡ true → t ≤ m + length seconds
+pub link_inside : (seconds : List LiveSecond) (m t : ℕ) → has_link m seconds t ≡ true → t ≤ m + length seconds
 link_inside [] m t h = absurd (false≢true h)
 link_inside (s ∷ ss) m t h = at (t == m + 1) refl (link_inside ss (m + 1) t)
   where
@@ -154,7 +154,7 @@ pub on_link_size : (turns : List (List (List ℕ))) → length (on_link turns) �
 on_link_size [] = refl
 on_link_size (x ∷ xs) = ap suc (on_link_size xs)
 
-all_linked : (turns : List (List (List ℕ))) (m t : ℕ) → m < t → t ≤ m + length turns → has_link m (on_link turns) t ≡ true
+pub all_linked : (turns : List (List (List ℕ))) (m t : ℕ) → m < t → t ≤ m + length turns → has_link m (on_link turns) t ≡ true
 all_linked [] m t low high = absurd (omega (arith, low, high))
 all_linked (x ∷ xs) m t low high = at (t == m + 1) refl (λ other. all_linked xs (m + 1) t (omega (arith, low, other)) (omega (arith, high)))
   where
@@ -174,6 +174,24 @@ alone_in rows channels assigned i t u h inside accepted low high j m lt other a 
       | inr le ↦ h.apart j i (omega (arith, le, other)) inside a accepted (m, runs, mine) same
     ])
 
+-- each second to a moment up to the last turn has a link, but for the opening
+pub linked_or_first : (turns : List (List (List ℕ))) (t : ℕ) → t ≤ length turns → (t ≡ 0) ⊎ (has_link 0 (on_link turns) t ≡ true)
+linked_or_first turns zero le = inl refl
+linked_or_first turns (suc t) le = inr (all_linked turns 0 (suc t) (omega arith) (omega (arith, le)))
+
+-- the same from a second before its start, where no booking of its channel ends at its start
+pub free_from_start : (rows : List Row) (channels : List Bool) (assigned : List (Option ℕ)) (i : ℕ) → AreBookings rows → Carries rows channels (is_accepted assigned) (channel_at assigned) → i < length rows → is_accepted assigned i ≡ true
+    → ((j : ℕ) → j < length rows → is_accepted assigned j ≡ true → channel_at assigned j ≡ channel_at assigned i → (row_at rows j).end ≢ (row_at rows i).start) → (s : ℕ) → (row_at rows i).start ≡ suc s → IsAlone rows assigned i s (suc s)
+free_from_start rows channels assigned i b h inside accepted after_none s is j m lt other a same from to = false_from_ne_true (is_running (row_at rows j) m) (λ runs.
+    let order : (row_at rows i).start < (row_at rows i).end = (b.each i inside).in_order in
+    let p = runs_at (row_at rows j) m runs in
+    let past : suc s < (row_at rows j).end = past_end s m (row_at rows j).end from p.1 (λ e. after_none j lt a same (e ∙ sym is)) in
+    true≢false (sym (runs_from (row_at rows j) (suc s) (omega (arith, p.0, to)) past)
+    ∙ alone_in rows channels assigned i (suc s) (suc s) h inside accepted (omega (arith, is)) (omega (arith, is, order)) j (suc s) lt other a same (omega arith) (omega arith)))
+  where
+    past_end : (s m e : ℕ) → s ≤ m → m < e → e ≢ suc s → suc s < e
+    past_end s m e le lt ne = omega (arith, le, lt, ne)
+
 pub carried_unbroken : (rows : List Row) (channels : List Bool) (assigned : List (Option ℕ)) (turns : List (List (List ℕ))) (i : ℕ) → AreBookings rows → Carries rows channels (is_accepted assigned) (channel_at assigned) → length turns ≤ 300000 → AreAnswered (on_link turns) (opening rows assigned) → IsLongEnough rows assigned i (length turns)
     → IsCarriedBy ((row_at rows i).start + 1) (row_at rows i).end (standing_at (live_day_after (events_of (on_link turns)) (opening rows assigned)) i)
 carried_unbroken rows channels assigned turns i b h few ok k =
@@ -184,17 +202,13 @@ carried_unbroken rows channels assigned turns i b h few ok k =
       accepted = k.accepted;
       outward = k.outward;
       alone = alone_in rows channels assigned i s (s + 1) h k.inside k.accepted (omega arith) k.seconds;
-      clears = first s (omega (arith, k.seconds, k.over));
+      clears = linked_or_first turns s (omega (arith, k.seconds, k.over));
       before = omega arith;
       runs = runs_from (row_at rows i) (s + 1) (omega arith) k.seconds;
       offers = all_linked turns 0 (s + 1) (omega arith) (omega (arith, k.seconds, k.over));
       over = omega arith;
       ends = all_linked turns 0 end (omega (arith, k.seconds)) (omega (arith, k.over));
     })
-  where
-    first : (t : ℕ) → t ≤ length turns → (t ≡ 0) ⊎ (has_link 0 (on_link turns) t ≡ true)
-    first zero le = inl refl
-    first (suc t) le = inr (all_linked turns 0 (suc t) (omega arith) (omega (arith, le)))
 
 pub carried_punctual : (rows : List Row) (channels : List Bool) (assigned : List (Option ℕ)) (turns : List (List (List ℕ))) (i : ℕ) → AreBookings rows → Carries rows channels (is_accepted assigned) (channel_at assigned) → length turns ≤ 300000 → AreAnswered (on_link turns) (opening rows assigned) → IsPunctual rows assigned i (length turns)
     → IsCarriedBy (row_at rows i).start (row_at rows i).end (standing_at (live_day_after (events_of (on_link turns)) (opening rows assigned)) i)
@@ -206,20 +220,6 @@ carried_punctual rows channels assigned turns i b h few ok k = at (row_at rows i
     order : (row_at rows i).start < end
     order = (b.each i k.inside).in_order
 
-    free : (s : ℕ) → (row_at rows i).start ≡ suc s → IsAlone rows assigned i s (suc s)
-    free s is j m lt other a same from to = false_from_ne_true (is_running (row_at rows j) m) (λ runs.
-        let p = runs_at (row_at rows j) m runs in
-        let past : suc s < (row_at rows j).end = past_end s m (row_at rows j).end from p.1 (λ e. k.after_none j lt a same (e ∙ sym is)) in
-        true≢false (sym (runs_from (row_at rows j) (suc s) (omega (arith, p.0, to)) past)
-        ∙ alone_in rows channels assigned i (suc s) (suc s) h k.inside k.accepted (omega (arith, is)) (omega (arith, is, order)) j (suc s) lt other a same (omega arith) (omega arith)))
-      where
-        past_end : (s m e : ℕ) → s ≤ m → m < e → e ≢ suc s → suc s < e
-        past_end s m e le lt ne = omega (arith, le, lt, ne)
-
-    cleared : (t : ℕ) → t ≤ length turns → (t ≡ 0) ⊎ (has_link 0 (on_link turns) t ≡ true)
-    cleared zero le = inl refl
-    cleared (suc t) le = inr (all_linked turns 0 (suc t) (omega arith) (omega (arith, le)))
-
     at : (s : ℕ) → (row_at rows i).start ≡ s → 1 ≤ s → IsCarriedBy (row_at rows i).start end (standing_at (live_day_after (events_of (on_link turns)) (opening rows assigned)) i)
     at zero is one = absurd (omega (arith, one))
     at (suc s) is one = subst (λ u. IsCarriedBy u end (standing_at (live_day_after (events_of (on_link turns)) (opening rows assigned)) i)) (sym is)
@@ -227,8 +227,8 @@ carried_punctual rows channels assigned turns i b h few ok k = at (row_at rows i
           inside = k.inside;
           accepted = k.accepted;
           outward = k.outward;
-          alone = free s is;
-          clears = cleared s (omega (arith, is, order, k.over));
+          alone = free_from_start rows channels assigned i b h k.inside k.accepted k.after_none s is;
+          clears = linked_or_first turns s (omega (arith, is, order, k.over));
           before = omega arith;
           runs = runs_from (row_at rows i) (suc s) (omega (arith, is)) (omega (arith, is, order));
           offers = all_linked turns 0 (suc s) (omega arith) (omega (arith, is, order, k.over));

@@ -41,9 +41,9 @@ use Rattle.bx_day.specs.declared.entry.Standing.TheVariants.{Refused, OnCall}
 use Rattle.bx_two_ends.specs.Asking.{is_asked}
 use Rattle.bx_two_ends.proofs.Asking.{awake_unasked}
 use Rattle.bx_two_ends.proofs.Answering.{IsHearing, hears_next, is_up, going_live}
-use Rattle.bx_two_ends.proofs.Naming.{named_found, names_live, live_inside, set_at}
+use Rattle.bx_two_ends.proofs.Naming.{named_found, names_live, live_inside, outward_none, set_at}
+use Rattle.bx_day.proofs.Law.{referred_by_row}
 use Rattle.bx_day.proofs.Once.{decide}
-use Rattle.bx_day.proofs.Received.{outward_none}
 use Rattle.bx_day.proofs.Said.{OfSaid}
 use Rattle.bx_day.proofs.Tick.{with_standing}
 use Rattle.bx_two_ends.proofs.Turning.{fits_at}
@@ -102,7 +102,7 @@ heard_x : (rows : List Row) (assigned : List (Option ℕ)) (c : Day) (t i : ℕ)
 heard_x rows assigned c t i o rest said d ok ref flag h named mine replies =
     let m : Said = said_from o in
     let mv : Moved = hears m d.moment (standing_at d i) in
-    let eq : receive_octets d (out_octets o) ≡ with_moved d i mv = receive_sent d o ok ∙ ap (received_at d m) (named_found d i m h.hearing.exchange h.hearing.once named) in
+    let eq : receive_octets d (out_octets o) ≡ with_moved d i mv = receive_sent d o ok ∙ ap (received_at d m) (named_found d i m h.hearing.exchange (referred_by_row rows assigned d h.hearing.turn.fits) h.hearing.once named) in
     subst (HeardX rows assigned c t rest said) (sym eq) (
       (λ j. set_at (λ e. e.channel ≡ channel_of c j) d.entries i j (with_standing (entry_at d.entries i) mv.standing) (λ same lt. subst (λ k. channel_of d i ≡ channel_of c k) same (h.channel i)) (h.channel j)),
       (
@@ -124,7 +124,7 @@ stray_x : (rows : List Row) (assigned : List (Option ℕ)) (c : Day) (t i : ℕ)
     → AtX c rest (said ++ reply_list x.reply) i (standing_at d i) → AllByRecursion (FromExchange c) (reply_list x.reply) → HeardX rows assigned c t rest said (receive_octets d (out_octets o))
 stray_x rows assigned c t i o rest said d ok ref flag h over x is same mine replies =
     let m : Said = said_from o in
-    let none : position (names m) d.entries ≡ None = outward_none d m i h.hearing.exchange flag (ref ∙ next i) (λ lt. false_from_ne_true (names m (entry_at d.entries i)) (λ named. true≢false (sym (names_live m (standing_at d i) named) ∙ over))) in
+    let none : position (names m) d.entries ≡ None = outward_none d m i h.hearing.exchange (referred_by_row rows assigned d h.hearing.turn.fits) flag (ref ∙ next i) (λ lt. false_from_ne_true (names m (entry_at d.entries i)) (λ named. true≢false (sym (names_live m (standing_at d i) named) ∙ over))) in
     let eq : receive_octets d (out_octets o) ≡ x = receive_sent d o ok ∙ ap (received_at d m) none ∙ is in
     subst (HeardX rows assigned c t rest said) (sym eq) (
       (λ j. ap (λ y. channel_of y j) same ∙ h.channel j),

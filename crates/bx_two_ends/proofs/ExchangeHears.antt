@@ -39,7 +39,7 @@ use Rattle.bx_two_ends.proofs.Delivery.{said_from}
 use Rattle.bx_two_ends.proofs.NetworkRows.{shows_connected, heard_goes, heard_says, OfCall, Mild, clears_as}
 use Rattle.bx_two_ends.proofs.History.{shows, from_beginner, from_other, is_setup_kind, sets_up, clears, has_more, has_none, none_all, IsIn, beginner_parts, is_from_other, not_both, listed, said_map, said_both}
 use Rattle.bx_two_ends.proofs.Outward.{is_started, Seat, Seats, OutwardSent, OutwardSents, OutwardStanding, OutwardStandings}
-use Rattle.bx_two_ends.proofs.ExchangeTicks.{sents_grow, goes_outward, follow_calm, follow_started, outward_row}
+use Rattle.bx_two_ends.proofs.ExchangeTicks.{sents_grow, goes_outward, follow_calm, follow_started, outward_own}
 use Rattle.bx_two_ends.specs.TwoEndsInward.{is_connect_kind}
 
 -- what an answer of the exchange leaves true
@@ -118,7 +118,7 @@ moved_keeps assigned sent far_sent d i m one seats sents standings =
     record {
       seats = λ k. set_at (λ e. is_refused e.standing ≡ false → Seat assigned k e) d.entries i k y
           (λ q r. let p : Seat assigned k (entry_at d.entries i) = subst (λ n. Seat assigned n (entry_at d.entries i)) (sym q) (seats i (one.refused r)) in
-          record { row = p.row; few = p.few; channel = p.channel; in_service = p.in_service; number = p.number }) (seats k);
+          record { reference = p.reference; few = p.few; channel = p.channel; in_service = p.in_service; number = p.number }) (seats k);
       sents = sents_grow assigned sent (reply_list m.said) d (with_moved d i m).day
           (λ k h. set_at (λ e. is_started e.standing ≡ true) d.entries i k y (λ q. one.started (subst (λ n. is_started (standing_at d n) ≡ true) q h)) h) sents
           (known_sent assigned sent (with_moved d i m).day m.said (said_map (λ o. o.flag ≡ false → (o.reference ≡ suc i) × Known sent o) (λ o. o.flag ≡ false → Known sent o) (λ o p f. (p f).1) m.said one.said));
@@ -170,7 +170,7 @@ heard_one : (assigned : List (Option ℕ)) (sent far_sent : List Outgoing) (t i 
 heard_one assigned sent far_sent t i o e (OnCall c a) named seat fits outward is_in =
     let step : Transition PlainNetCall = net_message c (said_from o).heard t in
     let p = and_parts (c.reference == o.reference) (bool_eq (net_flag c.origin) (not o.flag)) named in
-    let row : net_flag c.origin ≡ false → c.reference ≡ suc i = λ f. outward_row e.row e.booking c.reference c.origin fits.origin f ∙ (seat refl).row in
+    let row : net_flag c.origin ≡ false → c.reference ≡ suc i = λ f. outward_own e.reference e.booking c.reference c.origin fits.origin f ∙ (seat refl).reference in
     let said : OfSaid (λ x. x.flag ≡ false → (x.reference ≡ suc i) × Known sent x) step.reply = said_both (OfCall c.reference c.origin) (λ x. is_plain x.kind ≡ true) (λ x. x.flag ≡ false → (x.reference ≡ suc i) × Known sent x)
     (λ x k q f. let g : net_flag c.origin ≡ false = sym k.1 ∙ f in let r : x.reference ≡ suc i = k.0 ∙ row g in
     (r, record { known = subst (λ n. list_any (sets_up n) sent ≡ true) (sym r) (outward g).known; other = not_setup x.kind q }))
@@ -228,7 +228,7 @@ index_none test n (e ∷ es) q j = decide (test e) refl (sym (position_next test
 -- a live outward call is named by its row
 outward_named : (assigned : List (Option ℕ)) (t i : ℕ) (m : Said) (e : Entry) (s : Standing) → IsOutwardCall s → (is_refused s ≡ false → Seat assigned i e) → EntryFits t (with_standing e s) → m.reference ≡ suc i → m.flag ≡ true → names_call m s ≡ true
 outward_named assigned t i m e (OnCall c a) live seat fits r f =
-    and_from (c.reference == m.reference) (bool_eq (net_flag c.origin) (not m.flag)) (eq-eqb c.reference m.reference (outward_row e.row e.booking c.reference c.origin fits.origin live ∙ (seat refl).row ∙ sym r))
+    and_from (c.reference == m.reference) (bool_eq (net_flag c.origin) (not m.flag)) (eq-eqb c.reference m.reference (outward_own e.reference e.booking c.reference c.origin fits.origin live ∙ (seat refl).reference ∙ sym r))
     (meet (net_flag c.origin) m.flag live f)
   where
     meet : (a b : Bool) → a ≡ false → b ≡ true → bool_eq a (not b) ≡ true

@@ -60,12 +60,12 @@ pub record MovedOk (m : Moved) : Type 0 where
   pub said : OfSaid Sendable m.said
   pub standing : StandingWithin m.standing
 
-row_reference : (assigned : List (Option ℕ)) (i : ℕ) (e : Entry) → Seat assigned i e → IsCallReference e.row
-row_reference assigned i e s = (omega (arith, s.row), omega (arith, s.row, s.few))
+own_reference : (assigned : List (Option ℕ)) (i : ℕ) (e : Entry) → Seat assigned i e → IsCallReference e.reference
+own_reference assigned i e s = (omega (arith, s.reference), omega (arith, s.reference, s.few))
 
 waits_within : (assigned : List (Option ℕ)) (i t : ℕ) (e : Entry) (back free : Bool) → Seat assigned i e → MovedOk (waits e t back free)
 waits_within assigned i t e back free s = by_cases (offers e t free) _ _ MovedOk
-    (λ _. record { said = setup_ok e.row e.channel e.booking.number (row_reference assigned i e s) s.in_service s.number; standing = record { reference = row_reference assigned i e s; channel = s.in_service; number = s.number } })
+    (λ _. record { said = setup_ok e.reference e.channel e.booking.number (own_reference assigned i e s) s.in_service s.number; standing = record { reference = own_reference assigned i e s; channel = s.in_service; number = s.number } })
     (λ _. by_cases (nat_le e.booking.end t) _ _ MovedOk (λ _. record { said = tt; standing = tt }) (λ _. record { said = tt; standing = tt }))
 
 pub second_within : (assigned : List (Option ℕ)) (i t : ℕ) (e : Entry) (back free : Bool) (s : Standing) → (is_refused s ≡ false → Seat assigned i e) → StandingWithin s → MovedOk (second_at e t back free s)

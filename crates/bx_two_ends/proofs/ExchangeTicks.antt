@@ -74,10 +74,10 @@ pub under_said : (A : Type 0) (P : Outgoing → Type 0) (said : Option Outgoing)
 under_said A P None f = tt
 under_said A P (Some o) f = f
 
--- an outward call has its row as its reference
-pub outward_row : (row : ℕ) (b : Row) (r : ℕ) (o : NetOrigin) → OriginFits row b r o → net_flag o ≡ false → r ≡ row
-outward_row row b r (Outward called) h q = h.1
-outward_row row b r Inward h q = absurd (true≢false q)
+-- an outward call has the reference of its booking
+pub outward_own : (own : ℕ) (b : Row) (r : ℕ) (o : NetOrigin) → OriginFits own b r o → net_flag o ≡ false → r ≡ own
+outward_own own b r (Outward called) h q = h.1
+outward_own own b r Inward h q = absurd (true≢false q)
 
 abbrev pub TickSaysOf : List (Option ℕ) → List Outgoing → ℕ → Moved → Type 0
 TickSaysOf assigned sent i m = OfSaid (TickSays assigned sent i m.standing) m.said
@@ -90,7 +90,7 @@ call_says assigned sent far_sent i t e c a seat fits outward =
     follow_said (TickSays assigned sent i after) a (t + 1) step.reply step.next
     (said_both (Speaks c.reference c.channel c.origin) (λ o. is_calm after ≡ true → Mild o) (TickSays assigned sent i after)
     (λ o s calm. record {
-      outward = λ f. s.reference ∙ outward_row e.row e.booking c.reference c.origin fits.origin (sym s.flag ∙ f) ∙ seat.row;
+      outward = λ f. s.reference ∙ outward_own e.reference e.booking c.reference c.origin fits.origin (sym s.flag ∙ f) ∙ seat.reference;
       known = λ f. inr (outward (sym s.flag ∙ f)).known;
       channel = λ k. s.setup k ∙ ap (λ (x : ℕ). Some (x, true)) (fits.channel ∙ seat.channel);
       started = λ k. follow_started a (t + 1) step.reply step.next;
@@ -105,7 +105,7 @@ waits_says : (assigned : List (Option ℕ)) (sent : List Outgoing) (i t : ℕ) (
 waits_says assigned sent i t e back free seat =
     by_cases (offers e t free) _ _ (TickSaysOf assigned sent i)
     (λ offered. record {
-      outward = λ f. seat.row;
+      outward = λ f. seat.reference;
       known = λ f. inl refl;
       channel = λ k. ap (λ (x : ℕ). Some (x, true)) seat.channel;
       started = λ k. refl;
@@ -310,7 +310,7 @@ waits_outward : (assigned : List (Option ℕ)) (i t : ℕ) (sent more far_sent :
 waits_outward assigned i t sent more far_sent e back free seat clean =
     by_cases (offers e t free) _ _ (OutwardAfter i sent more far_sent)
     (λ offered said calm f. record {
-      known = has_new (sets_up (suc i)) sent more (said (sets_up (suc i)) (and_from ((e.row == suc i) && true) true (and_from (e.row == suc i) true (eq-eqb e.row (suc i) seat.row) refl) refl));
+      known = has_new (sets_up (suc i)) sent more (said (sets_up (suc i)) (and_from ((e.reference == suc i) && true) true (and_from (e.reference == suc i) true (eq-eqb e.reference (suc i) seat.reference) refl) refl));
       calm = λ q. has_none (clears (suc i)) sent more clean (calm refl);
       active = λ q. absurd (false≢true q);
       proceeding = refl;
@@ -347,4 +347,4 @@ pub tick_seats : (assigned : List (Option ℕ)) (d : Day) → Seats assigned d.e
 tick_seats assigned d seats i q =
     let e = entry_at d.entries i in
     let p : Seat assigned i e = seats i (second_refused (d.moment + 1) (is_back d) (is_free d e.channel) e e.standing (sym (ap is_refused (after_at d i)) ∙ q)) in
-    subst (Seat assigned i) (sym (at_map d d.entries i)) (record { row = p.row; few = p.few; channel = p.channel; in_service = p.in_service; number = p.number })
+    subst (Seat assigned i) (sym (at_map d d.entries i)) (record { reference = p.reference; few = p.few; channel = p.channel; in_service = p.in_service; number = p.number })

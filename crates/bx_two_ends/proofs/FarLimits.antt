@@ -57,7 +57,7 @@ pub record BeginsOk (b : Begun) : Type 0 where
 one_now : (t moment : ℕ) (number : List ℕ) (c : ℕ) → (moment == t) ≡ true → calls_now t (Calls number moment c ∷ []) ≡ 1
 one_now t moment number c q = ap (λ (b : Bool). if b then 1 else 0) q
 
-row_ok : (t : ℕ) (row : ScriptRow) (b : Begun) → IsScriptRow row → b.next + calls_now t (row ∷ []) ≤ 4001 → BeginsOk b → BeginsOk (begin_row t row b)
+row_ok : (t : ℕ) (row : ScriptRow) (b : Begun) → IsScriptRow row → b.next + calls_now t (row ∷ []) ≤ 16001 → BeginsOk b → BeginsOk (begin_row t row b)
 row_ok t (Follows number policy) b is room h = h
 row_ok t (Calls number moment c) b is room h = by_cases ((moment == t) && not (is_marked b.blocked c)) _ _ BeginsOk
     (λ q. let r : IsCallReference b.next = (h.first, bound b.next (calls_now t (Calls number moment c ∷ [])) room (one_now t moment number c (and_parts (moment == t) (not (is_marked b.blocked c)) q).0)) in record {
@@ -67,17 +67,17 @@ row_ok t (Calls number moment c) b is room h = by_cases ((moment == t) && not (i
     })
     (λ _. h)
   where
-    bound : (x y : ℕ) → x + y ≤ 4001 → y ≡ 1 → x ≤ 32767
+    bound : (x y : ℕ) → x + y ≤ 16001 → y ≡ 1 → x ≤ 32767
     bound x y l q = omega (arith, l, q)
 
-rows_ok : (t : ℕ) (rows : List ScriptRow) (b : Begun) → AllByRecursion IsScriptRow rows → b.next + calls_now t rows ≤ 4001 → BeginsOk b → BeginsOk (begin_rows t rows b)
+rows_ok : (t : ℕ) (rows : List ScriptRow) (b : Begun) → AllByRecursion IsScriptRow rows → b.next + calls_now t rows ≤ 16001 → BeginsOk b → BeginsOk (begin_rows t rows b)
 rows_ok t [] b is room h = h
 rows_ok t (row ∷ rows) b is room h = rows_ok t rows (begin_row t row b) is.1 (omega (arith, room, now_split t row rows, row_room t row b)) (row_ok t row b is.0 (omega (arith, room, now_split t row rows)) h)
 
 pub record FarWithin (f : FarDay) : Type 0 where
   pub calls : AllByRecursion UserCallWithin f.calls
   pub first : 1 ≤ f.next
-  pub room : f.next + calls_later f.moment f.script ≤ 4001
+  pub room : f.next + calls_later f.moment f.script ≤ 16001
 
 pub record FarTickOk (x : Sent FarDay) : Type 0 where
   pub sent : AllByRecursion Sendable x.sent

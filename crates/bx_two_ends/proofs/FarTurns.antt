@@ -28,7 +28,7 @@ use Rattle.bx_two_ends.proofs.Holders.{held_by, insert_same, insert_other, settl
 
 pub record IsCalledDay (c : Day) : Type 0 where
   pub apart : (i j : ℕ) → is_live (standing_at c i) ≡ true → is_live (standing_at c j) ≡ true → (entry_at c.entries i).channel ≡ (entry_at c.entries j).channel → i ≡ j
-  pub few : (i : ℕ) → is_live (standing_at c i) ≡ true → i ≤ 3999
+  pub few : (i : ℕ) → is_live (standing_at c i) ≡ true → i ≤ 15999
   pub in_service : (i : ℕ) → is_live (standing_at c i) ≡ true → IsChannel (entry_at c.entries i).channel
 
 abbrev pub channel_of : Day → ℕ → ℕ

@@ -18,7 +18,7 @@ use Rattle.bx_two_ends.proofs.Carrying.{cleared_quiet}
 use Rattle.bx_two_ends.proofs.EarnedDays.{after_both, seconds_are, size_after}
 
 -- a second with a link is after the moment from which on it is looked for
-link_after : (seconds : List LiveSecond) (m t : ℕ) → has_link m seconds t ≡ true → m < t
+pub link_after : (seconds : List LiveSecond) (m t : ℕ) → has_link m seconds t ≡ true → m < t
 link_after [] m t h = absurd (false≢true h)
 link_after (s ∷ ss) m t h = at (t == m + 1) refl (link_after ss (m + 1) t)
   where

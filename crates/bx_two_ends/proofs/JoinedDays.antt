@@ -130,12 +130,12 @@ pub heard_by : ℕ → Ends → List (List (List ℕ))
 heard_by zero e = []
 heard_by (suc n) e = octets_received e ∷ heard_by n (ends_after e)
 
-turns_heard : (n : ℕ) (e : Ends) → turns_from n e ≡ on_link (heard_by n e)
+pub turns_heard : (n : ℕ) (e : Ends) → turns_from n e ≡ on_link (heard_by n e)
 unfolding heard_by
 turns_heard zero e = refl
 turns_heard (suc n) e = ap (λ (ss : List LiveSecond). Linked (octets_received e) ∷ ss) (turns_heard n (ends_after e))
 
-heard_size : (n : ℕ) (e : Ends) → length (heard_by n e) ≡ n
+pub heard_size : (n : ℕ) (e : Ends) → length (heard_by n e) ≡ n
 unfolding heard_by
 heard_size zero e = refl
 heard_size (suc n) e = ap suc (heard_size n (ends_after e))

@@ -112,7 +112,7 @@ module _ (assigned : List (Option ℕ)) (d : Day) where
   moved_seats : (i : ℕ) (m : Moved) → (is_refused m.standing ≡ false → is_refused (standing_at d i) ≡ false) → Seats assigned d.entries → Seats assigned (with_moved d i m).day.entries
   moved_seats i m before seats k = set_at (λ e. is_refused e.standing ≡ false → Seat assigned k e) d.entries i k (with_standing (entry_at d.entries i) m.standing)
       (λ q r. let p : Seat assigned k (entry_at d.entries i) = subst (λ n. Seat assigned n (entry_at d.entries i)) (sym q) (seats i (before r)) in
-      record { row = p.row; few = p.few; channel = p.channel; in_service = p.in_service; number = p.number }) (seats k)
+      record { reference = p.reference; few = p.few; channel = p.channel; in_service = p.in_service; number = p.number }) (seats k)
 
   heard_seats : (octets : List ℕ) → Seats assigned d.entries → Seats assigned (receive_octets d octets).day.entries
   heard_seats octets seats = octets_day (λ x. Seats assigned x.entries) d octets seats

@@ -59,3 +59,8 @@ pub mod NearTicks
 pub mod ChannelDays
 pub mod LossyDays
 pub mod TalkingDays
+pub mod RingDays
+pub mod RingNone
+pub mod RingMessages
+pub mod RingTurns
+pub mod RingEnds

@@ -23,19 +23,21 @@ use Rattle.bx_day.proofs.OpeningDay.{opening_at}
 use Rattle.bx_day.proofs.SlotLemmas.{holds_parts}
 use Rattle.bx_far.specs.FarDay.{holder, far_tick}
 use Rattle.bx_far.specs.declared.row.ScriptRow.{ScriptRow}
+use Rattle.bx_far.specs.declared.row.ScriptRow.TheVariants.{Follows, Calls}
 use Rattle.bx_two_ends.specs.Earning.{seconds_after, has_link, is_settled, is_settled_in, is_going, IsAllAnswered, AreAnswered, IsAlone, IsCarriedBy}
 use Rattle.bx_two_ends.specs.Lockstep.{Ends, far_heard, far_says, exchange_says, received_in, ends_after, ends_opening, turns_from, AnswersAtOnce}
 use Rattle.bx_two_ends.specs.LossyLink.{LinkSecond, Whole, Cut, Lost, coming, ends_cut, ends_apart, ends_in, ends_over, day_of_both, LosesWithLink, IsLongBehind, answers_in, calls_in, replies_of}
-use Rattle.bx_two_ends.proofs.OneChannel.{Left, IsPart, messages_on, NearTicks, near_left, near_outlasts, far_outlasts}
+use Rattle.bx_two_ends.proofs.OneChannel.{Left, none_waits, IsPart, messages_on, NearTicks, near_left, near_outlasts, far_outlasts}
 use Rattle.bx_two_ends.proofs.Answering.{going_live}
 use Rattle.bx_two_ends.proofs.Calm.{IsCalm, Stands, IsDueIn, booked_run, settled_cleared}
 use Rattle.bx_two_ends.proofs.Carrying.{IsUp, IsQuietCall, is_pressed, active_up, going_runs}
-use Rattle.bx_two_ends.proofs.ChannelDays.{Between, PairOn, IsComing}
+use Rattle.bx_two_ends.proofs.ChannelDays.{BetweenBy, Between, PairOn, IsComing}
 use Rattle.bx_two_ends.proofs.ChannelDays as days
 use Rattle.bx_two_ends.proofs.ChannelMessages.{IsToFar, IsToNear}
-use Rattle.bx_two_ends.proofs.ChannelStates.{IsLoose, IsLost, IsSettling, Idle, Talking, Waiting, Clearing, IsActiveHere, active_is, IsUnbrokenNear, IsKeptOn, TurnLeaves, asked_in, passed_in_turn, left_in}
+use Rattle.bx_two_ends.proofs.ChannelStates.{IsLoose, IsLost, IsSettling, Idle, Talking, Waiting, Clearing, IsActiveHere, active_is, IsUnbrokenNear, IsKeptOn, TurnLeavesBy, TurnLeaves, asked_by, asked_in, passed_by, passed_in_turn, left_in}
 use Rattle.bx_two_ends.proofs.EarnedDays.{alone_in, runs_from, waits_of}
-use Rattle.bx_two_ends.proofs.FarChannel.{far_opens}
+use Rattle.bx_two_ends.proofs.FarCalled.{at_once}
+use Rattle.bx_two_ends.proofs.FarChannel.{IsFollowed, far_opens}
 use Rattle.bx_two_ends.proofs.Naming.{live_inside}
 use Rattle.bx_two_ends.proofs.ChannelTurns.{loose_of, lost_loose, lost_after, lost_kept, lost_called, settling_called, lost_whole, settling_whole, lost_cut, settling_cut}
 use Rattle.bx_two_ends.proofs.NearChannel.{chan_of, ends_of, NearFits, near_opens, near_unique}
@@ -46,7 +48,7 @@ use Rattle.bx_two_ends.proofs.Turning.{fits_at, held_by, live_accepted, runs_of}
 abbrev AllCome : List Outgoing → List Outgoing → Type 0
 AllCome xs ys = xs ≡ ys
 
-whole_comes : (chan : ℕ → ℕ) → IsComing chan AllCome
+pub whole_comes : (chan : ℕ → ℕ) → IsComing chan AllCome
 whole_comes chan = record {
   on = λ k xs ys is. ap (messages_on chan k) is;
   calls = λ xs ys is all. subst (AllByRecursion (IsToFar chan)) (sym is) all;
@@ -114,42 +116,46 @@ module _ (rows : List Row) (assigned : List (Option ℕ)) where
 
   -- ---- a whole turn
 
-  whole_step : (Pairs Leaves : ℕ → Option PlainNetCall → Option PlainUserCall → Type 0) (t : ℕ) (back : Bool)
-      → ((k : ℕ) (near : Option PlainNetCall) (far : Option PlainUserCall) (called : Left PlainNetCall) → Pairs k near far → NearTicks Ending back k (t + 1) near called → TurnLeaves (Leaves k) Ending k t far called called.said ((asked_in k t far called.said).said ++ (passed_in_turn k t far called.said).said) (left_in t called ((asked_in k t far called.said).said ++ (passed_in_turn k t far called.said).said)).said)
-      → (k : ℕ) (near : Option PlainNetCall) (far : Option PlainUserCall) (called : Left PlainNetCall) (come received replies : List Outgoing) → Pairs k near far → NearTicks Ending back k (t + 1) near called → come ≡ called.said → received ≡ (asked_in k t far come).said ++ (passed_in_turn k t far come).said → replies ≡ (left_in t called received).said → TurnLeaves (Leaves k) Ending k t far called come received replies
-  whole_step Pairs Leaves t back f k near far called come received replies pair ticks a b c =
-      subst (λ xs. TurnLeaves (Leaves k) Ending k t far called come received xs) (sym c)
-      (subst (λ xs. TurnLeaves (Leaves k) Ending k t far called come xs (left_in t called xs).said) (sym b)
-      (subst (λ xs. TurnLeaves (Leaves k) Ending k t far called xs ((asked_in k t far xs).said ++ (passed_in_turn k t far xs).said) (left_in t called ((asked_in k t far xs).said ++ (passed_in_turn k t far xs).said)).said) (sym a)
+  whole_step : (wait : Option (List ℕ) → ℕ) (Pairs Leaves : ℕ → Option PlainNetCall → Option PlainUserCall → Type 0) (t : ℕ) (back : Bool)
+      → ((k : ℕ) (near : Option PlainNetCall) (far : Option PlainUserCall) (called : Left PlainNetCall) → Pairs k near far → NearTicks Ending back k (t + 1) near called → TurnLeavesBy wait (Leaves k) Ending k t far called called.said ((asked_by wait k t far called.said).said ++ (passed_by wait k t far called.said).said) (left_in t called ((asked_by wait k t far called.said).said ++ (passed_by wait k t far called.said).said)).said)
+      → (k : ℕ) (near : Option PlainNetCall) (far : Option PlainUserCall) (called : Left PlainNetCall) (come received replies : List Outgoing) → Pairs k near far → NearTicks Ending back k (t + 1) near called → come ≡ called.said → received ≡ (asked_by wait k t far come).said ++ (passed_by wait k t far come).said → replies ≡ (left_in t called received).said → TurnLeavesBy wait (Leaves k) Ending k t far called come received replies
+  whole_step wait Pairs Leaves t back f k near far called come received replies pair ticks a b c =
+      subst (λ xs. TurnLeavesBy wait (Leaves k) Ending k t far called come received xs) (sym c)
+      (subst (λ xs. TurnLeavesBy wait (Leaves k) Ending k t far called come xs (left_in t called xs).said) (sym b)
+      (subst (λ xs. TurnLeavesBy wait (Leaves k) Ending k t far called xs ((asked_by wait k t far xs).said ++ (passed_by wait k t far xs).said) (left_in t called ((asked_by wait k t far xs).said ++ (passed_by wait k t far xs).said)).said) (sym a)
       (f k near far called pair ticks)))
 
   lost_step : (t : ℕ) (back : Bool) → back ≡ true → (k : ℕ) (near : Option PlainNetCall) (far : Option PlainUserCall) (called : Left PlainNetCall) → IsLost Ending k t near far → NearTicks Ending back k (t + 1) near called → TurnLeaves (IsSettling Ending k t (t + 1)) Ending k t far called called.said ((asked_in k t far called.said).said ++ (passed_in_turn k t far called.said).said) (left_in t called ((asked_in k t far called.said).said ++ (passed_in_turn k t far called.said).said)).said
   lost_step t back is k near far called pair ticks = lost_whole Ending k t near far called pair (subst (λ b. NearTicks Ending b k (t + 1) near called) is ticks)
 
   -- what a turn leaves, and which calls it keeps
-  pub record Turned (Leaves : ℕ → Option PlainNetCall → Option PlainUserCall → Type 0) (t : ℕ) (e after : Ends) : Type 0 where
-    pub left : Between rows assigned Leaves (t + 1) after
+  pub record TurnedBy (wait : Option (List ℕ) → ℕ) (Leaves : ℕ → Option PlainNetCall → Option PlainUserCall → Type 0) (t : ℕ) (e after : Ends) : Type 0 where
+    pub left : BetweenBy wait rows assigned Leaves (t + 1) after
     pub called : NearFits rows assigned (t + 1) (tick e.exchange).day
     pub kept : (i : ℕ) → is_live (standing_at (tick e.exchange).day i) ≡ true → t + 1 < (row_at rows i).end → is_live (standing_at after.exchange i) ≡ true
 
-  whole_turn : (Pairs Leaves : ℕ → Option PlainNetCall → Option PlainUserCall → Type 0) (t : ℕ) (e : Ends) → t < 300000 → Between rows assigned Pairs t e
+  -- the same where none waits
+  abbrev pub Turned : (ℕ → Option PlainNetCall → Option PlainUserCall → Type 0) → ℕ → Ends → Ends → Type 0
+  Turned Leaves t e after = TurnedBy none_waits Leaves t e after
+
+  pub whole_turn : (wait : Option (List ℕ) → ℕ) (Pairs Leaves : ℕ → Option PlainNetCall → Option PlainUserCall → Type 0) (t : ℕ) (e : Ends) → t < 300000 → BetweenBy wait rows assigned Pairs t e
       → ((k : ℕ) (c : PlainNetCall) (far : Option PlainUserCall) → Pairs k (Some c) far → IsUnbrokenNear (net_second c (t + 1) (Ending c.reference)).next × IsKeptOn Ending (t + 1) (Some c) (near_left (net_second c (t + 1) (Ending c.reference)).next))
-      → ((k : ℕ) (near : Option PlainNetCall) (far : Option PlainUserCall) (called : Left PlainNetCall) → Pairs k near far → NearTicks Ending (is_back e.exchange) k (t + 1) near called → TurnLeaves (Leaves k) Ending k t far called called.said ((asked_in k t far called.said).said ++ (passed_in_turn k t far called.said).said) (left_in t called ((asked_in k t far called.said).said ++ (passed_in_turn k t far called.said).said)).said)
-      → Turned Leaves t e (ends_after e)
-  whole_turn Pairs Leaves t e early h unbroken f =
-      let step = whole_step Pairs Leaves t (is_back e.exchange) f in
+      → ((k : ℕ) (near : Option PlainNetCall) (far : Option PlainUserCall) (called : Left PlainNetCall) → Pairs k near far → NearTicks Ending (is_back e.exchange) k (t + 1) near called → TurnLeavesBy wait (Leaves k) Ending k t far called called.said ((asked_by wait k t far called.said).said ++ (passed_by wait k t far called.said).said) (left_in t called ((asked_by wait k t far called.said).said ++ (passed_by wait k t far called.said).said)).said)
+      → TurnedBy wait Leaves t e (ends_after e)
+  whole_turn wait Pairs Leaves t e early h unbroken f =
+      let step = whole_step wait Pairs Leaves t (is_back e.exchange) f in
       record {
-        left = days.between_after rows assigned AllCome (whole_comes (chan_of assigned)) Pairs Leaves t e early h unbroken step (tick e.exchange).sent refl (received_in e) refl (exchange_says (received_in e) (tick e.exchange).day) refl;
-        called = (days.ticked rows assigned AllCome (whole_comes (chan_of assigned)) Pairs Leaves t e early h unbroken step (tick e.exchange).sent refl).fits;
-        kept = days.kept_live rows assigned AllCome (whole_comes (chan_of assigned)) Pairs Leaves t e early h unbroken step (tick e.exchange).sent refl (received_in e) refl (exchange_says (received_in e) (tick e.exchange).day) refl;
+        left = days.between_after rows assigned wait AllCome (whole_comes (chan_of assigned)) Pairs Leaves t e early h unbroken step (tick e.exchange).sent refl (received_in e) refl (exchange_says (received_in e) (tick e.exchange).day) refl;
+        called = (days.ticked rows assigned wait AllCome (whole_comes (chan_of assigned)) Pairs Leaves t e early h unbroken step (tick e.exchange).sent refl).fits;
+        kept = days.kept_live rows assigned wait AllCome (whole_comes (chan_of assigned)) Pairs Leaves t e early h unbroken step (tick e.exchange).sent refl (received_in e) refl (exchange_says (received_in e) (tick e.exchange).day) refl;
       }
 
   pub settling_turn : (b t : ℕ) (e : Ends) → t < 300000 → Settling b t e → Turned (λ k v w. IsSettling Ending k b (t + 1) v w) t e (ends_after e)
-  settling_turn b t e early h = whole_turn (λ k v w. IsSettling Ending k b t v w) (λ k v w. IsSettling Ending k b (t + 1) v w) t e early h
+  settling_turn b t e early h = whole_turn none_waits (λ k v w. IsSettling Ending k b t v w) (λ k v w. IsSettling Ending k b (t + 1) v w) t e early h
       (λ k c far p. settling_called Ending k b t c far p) (λ k near far called p ticks. settling_whole Ending (is_back e.exchange) k b t near far called p ticks)
 
   pub apart_turn : (t : ℕ) (e : Ends) → t < 300000 → Apart t e → Turned (λ k v w. IsSettling Ending k t (t + 1) v w) t e (ends_after e)
-  apart_turn t e early h = whole_turn (λ k v w. IsLost Ending k t v w) (λ k v w. IsSettling Ending k t (t + 1) v w) t e early h.0
+  apart_turn t e early h = whole_turn none_waits (λ k v w. IsLost Ending k t v w) (λ k v w. IsSettling Ending k t (t + 1) v w) t e early h.0
       (λ k c far p. lost_called Ending k t c far p) (lost_step t (is_back e.exchange) h.1)
 
   -- ---- a turn that is cut
@@ -166,9 +172,9 @@ module _ (rows : List Row) (assigned : List (Option ℕ)) where
       let said = replies_of calls answers replies e in
       let third = coming_part replies (exchange_says received (tick e.exchange).day) in
       record {
-        left = days.between_after rows assigned IsPart (part_comes (chan_of assigned)) Pairs (λ k v w. IsLoose Ending k (t + 1) v w) t e early h unbroken f come first received second said third;
-        called = (days.ticked rows assigned IsPart (part_comes (chan_of assigned)) Pairs (λ k v w. IsLoose Ending k (t + 1) v w) t e early h unbroken f come first).fits;
-        kept = days.kept_live rows assigned IsPart (part_comes (chan_of assigned)) Pairs (λ k v w. IsLoose Ending k (t + 1) v w) t e early h unbroken f come first received second said third;
+        left = days.between_after rows assigned none_waits IsPart (part_comes (chan_of assigned)) Pairs (λ k v w. IsLoose Ending k (t + 1) v w) t e early h unbroken f come first received second said third;
+        called = (days.ticked rows assigned none_waits IsPart (part_comes (chan_of assigned)) Pairs (λ k v w. IsLoose Ending k (t + 1) v w) t e early h unbroken f come first).fits;
+        kept = days.kept_live rows assigned none_waits IsPart (part_comes (chan_of assigned)) Pairs (λ k v w. IsLoose Ending k (t + 1) v w) t e early h unbroken f come first received second said third;
       }
 
   pub cut_turn : (calls answers replies : List Bool) (t : ℕ) (e : Ends) → t < 300000 → Ready t e → Turned (λ k v w. IsLoose Ending k (t + 1) v w) t e (ends_cut calls answers replies e)
@@ -186,8 +192,8 @@ module _ (rows : List Row) (assigned : List (Option ℕ)) where
 
   pub lost_turn : (Pairs : ℕ → Option PlainNetCall → Option PlainUserCall → Type 0) (t : ℕ) (e : Ends) → t < 300000 → Between rows assigned Pairs t e → ((k : ℕ) (near : Option PlainNetCall) (far : Option PlainUserCall) → Pairs k near far → IsLoose Ending k t near far) → Apart (t + 1) (ends_apart e)
   lost_turn Pairs t e early h f = (
-    days.between_apart rows assigned Pairs (λ k v w. IsLost Ending k (t + 1) v w) t e early h (λ k near far p. loose_at k t near far (f k near far p)),
-    days.back_apart rows assigned Pairs (λ k v w. IsLost Ending k (t + 1) v w) t e early h (λ k near far p. loose_at k t near far (f k near far p)),
+    days.between_apart rows assigned none_waits Pairs (λ k v w. IsLost Ending k (t + 1) v w) t e early h (λ k near far p. loose_at k t near far (f k near far p)),
+    days.back_apart rows assigned none_waits Pairs (λ k v w. IsLost Ending k (t + 1) v w) t e early h (λ k near far p. loose_at k t near far (f k near far p)),
   )
 
   -- ---- all seconds
@@ -433,10 +439,15 @@ module _ (rows : List Row) (assigned : List (Option ℕ)) where
 
 -- ---- of every carried plan, and a script that answers each call at once
 
+once_follows : (script : List ScriptRow) → AnswersAtOnce script → AllByRecursion IsFollowed script
+once_follows [] h = tt
+once_follows (Follows number policy ∷ rows) h = (tt, once_follows rows h.1)
+once_follows (Calls number moment channel ∷ rows) h = absurd h.0
+
 pub opening_ready : (rows : List Row) (channels : List Bool) (assigned : List (Option ℕ)) (script : List ScriptRow) → AreBookings rows → IsChannelSet channels → Carries rows channels (is_accepted assigned) (channel_at assigned) → AnswersAtOnce script → Ready rows assigned 0 (ends_opening rows assigned script)
 opening_ready rows channels assigned script b set carries once =
     let near = near_opens rows channels assigned b set carries in
-    let far = far_opens (chan_of assigned) script once in
+    let far = far_opens none_waits (chan_of assigned) script (λ called. at_once script called once) (once_follows script once) in
     Settles 0 (omega arith) (record {
       near = near.fits;
       far = far.0;

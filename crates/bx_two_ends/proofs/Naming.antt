@@ -1,10 +1,11 @@
--- A message names one live call at most: those that the exchange began by their rows, and those that the far end began because
+-- A message names one live call at most: those that the exchange began by their references, which are their rows, and those that the far end began because
 -- a SETUP with the reference of one goes to it.
 use Rattle.std.proofs.Common.{◌≡◌, ℕ, zero, suc, ◌+◌, ◌<◌, ◌==◌, ◌&&◌, not, Bool, true, false, List, [], ◌∷◌, length, Option, Some, None, arith, refl, sym, subst, ap, ◌∙◌, slice_set, nat_le, inl, inr, ◌⊎◌, if◌then◌else◌}
 use Rattle.std.specs.Option.{option_map}
 use Rattle.std.specs.List.{position}
-use Rattle.std.proofs.lemmas.Bool.{false≢true, true≢false, and_parts, and_from, eqb-true, eq-eqb}
+use Rattle.std.proofs.lemmas.Bool.{false≢true, true≢false, and_parts, and_from, eqb-true, eq-eqb, false_from_ne_true}
 use Rattle.std.proofs.lemmas.List.Quantifiers.{position-Some}
+use Rattle.bx_base.specs.Bookings.{Row}
 use Rattle.bx_q931.specs.declared.kind.Kind.{Kind}
 use Rattle.bx_q931.specs.declared.kind.Kind.TheVariants.{Alerting, CallProceeding, Setup, Connect, ConnectAcknowledge, Disconnect, Release, ReleaseComplete, StatusEnquiry, Status}
 use Rattle.bx_calls.specs.Hearing.{Heard, names_channel, reports_null}
@@ -20,6 +21,8 @@ use Rattle.bx_calls.specs.declared.net_state.NetState.{NetState}
 use Rattle.bx_calls.specs.declared.net_state.NetState.TheVariants.{OutgoingCallProceeding, CallPresent, IncomingCallProceeding, CallReceived, Active, Enquiring, DisconnectIndication, ReleaseRequest}
 use Rattle.bx_calls.specs.declared.transition.Transition.{Transition}
 use Rattle.bx_day.specs.Day.{is_back, Day, entry_at, is_live, is_free, no_entry}
+use Rattle.bx_day.specs.Changed.{AreReferredByRow}
+use Rattle.bx_day.specs.Invariant.{EntryFits, OriginFits, StandingFits}
 use Rattle.bx_day.specs.Moves.{follows, over_at}
 use Rattle.bx_day.specs.Reading.{IsExchange}
 use Rattle.bx_day.specs.Receipts.{names, names_call, hears, takes_call, with_moved}
@@ -33,12 +36,47 @@ use Rattle.bx_day.specs.declared.entry.Moved.{Moved}
 use Rattle.bx_day.specs.declared.entry.Standing.{Standing}
 use Rattle.bx_day.specs.declared.entry.Standing.TheVariants.{Refused, Unoffered, OnCall}
 use Rattle.bx_day.proofs.Hear.{heard_by}
-use Rattle.bx_day.proofs.Indices.{position_next}
-use Rattle.bx_day.proofs.Law.{at_map_in}
-use Rattle.bx_day.proofs.Once.{decide}
-use Rattle.bx_day.proofs.Received.{outward_found}
+use Rattle.bx_day.proofs.Indices.{index_found, index_none, position_next}
+use Rattle.bx_day.proofs.Law.{RunFits, at_map_in, referred_by_row}
+use Rattle.bx_day.proofs.Once.{decide, each_at}
 use Rattle.bx_day.proofs.Second.{call_of}
 use Rattle.bx_day.proofs.Tick.{by_cases, offers, with_standing}
+
+-- ---- references of a day from an opening: they are the rows
+
+pub own_at : (rows : List Row) (assigned : List (Option ℕ)) (d : Day) (i : ℕ) → RunFits rows assigned d → IsExchange d → i < length d.entries → (entry_at d.entries i).reference ≡ suc i
+own_at rows assigned d i fits h lt =
+    let row : (entry_at d.entries i).row ≡ i + 1 = h.numbered i lt in
+    let own = referred_by_row rows assigned d fits i lt in
+    omega (arith, row, own)
+
+origin_own : (e : Entry) (c : PlainNetCall) (o : NetOrigin) → OriginFits e.reference e.booking c.reference o → bool_eq (net_flag o) false ≡ true → c.reference ≡ e.reference
+origin_own e c (Outward called) fits h = fits.1
+origin_own e c Inward fits h = absurd (false≢true h)
+
+standing_own : (t : ℕ) (m : Said) (e : Entry) (s : Standing) → m.flag ≡ true → StandingFits t e s → names_call m s ≡ true → e.reference ≡ m.reference
+standing_own t m e (OnCall c a) flag fits h =
+    let p = and_parts (c.reference == m.reference) (bool_eq (net_flag c.origin) (not m.flag)) h in
+    let outward : bool_eq (net_flag c.origin) false ≡ true = subst (λ (b : Bool). bool_eq (net_flag c.origin) (not b) ≡ true) flag p.1 in
+    sym (origin_own e c c.origin fits.origin outward) ∙ eqb-true c.reference m.reference p.0
+standing_own t m e s flag fits h = absurd (false≢true h)
+
+named_place : (d : Day) (m : Said) (k : ℕ) → IsExchange d → AreReferredByRow d.entries → m.flag ≡ true → k < length d.entries → names m (entry_at d.entries k) ≡ true → k + 1 ≡ m.reference
+named_place d m k h own flag lt named =
+    let e = entry_at d.entries k in
+    sym (h.numbered k lt) ∙ sym (own k lt) ∙ standing_own d.moment m e e.standing flag (each_at (EntryFits d.moment) d.entries k lt h.day.each) named
+
+outward_found : (d : Day) (m : Said) (i : ℕ) → IsExchange d → AreReferredByRow d.entries → m.flag ≡ true → i < length d.entries → names m (entry_at d.entries i) ≡ true → position (names m) d.entries ≡ Some i
+outward_found d m i h own flag lt named =
+    let here = named_place d m i h own flag lt named in
+    index_found (names m) d.entries i lt named (λ k less. false_from_ne_true (names m (entry_at d.entries k)) (λ other.
+    let there = named_place d m k h own flag (omega (arith, less, lt)) other in omega (arith, here, there, less)))
+
+pub outward_none : (d : Day) (m : Said) (i : ℕ) → IsExchange d → AreReferredByRow d.entries → m.flag ≡ true → m.reference ≡ i + 1 → (i < length d.entries → names m (entry_at d.entries i) ≡ false) → position (names m) d.entries ≡ None
+outward_none d m i h own flag place unnamed = index_none (names m) d.entries (λ k lt. false_from_ne_true (names m (entry_at d.entries k)) (λ other.
+    let there : k + 1 ≡ m.reference = named_place d m k h own flag lt other in
+    let same : k ≡ i = omega (arith, there, place) in
+    true≢false (sym other ∙ subst (λ (n : ℕ). names m (entry_at d.entries n) ≡ false) (sym same) (unnamed (subst (λ (n : ℕ). n < length d.entries) same lt)))))
 
 -- ---- who is named
 
@@ -83,9 +121,9 @@ abbrev pub IsNamedOnce : Day → Type 0
 IsNamedOnce d = (m : Said) (i j : ℕ) → m.flag ≡ false → names m (entry_at d.entries i) ≡ true → names m (entry_at d.entries j) ≡ true → i ≡ j
 
 -- any message
-pub named_found : (d : Day) (i : ℕ) (m : Said) → IsExchange d → IsNamedOnce d → names m (entry_at d.entries i) ≡ true → position (names m) d.entries ≡ Some i
-named_found d i m h once named = decide m.flag
-    (λ flag. outward_found d m i h flag lt named)
+pub named_found : (d : Day) (i : ℕ) (m : Said) → IsExchange d → AreReferredByRow d.entries → IsNamedOnce d → names m (entry_at d.entries i) ≡ true → position (names m) d.entries ≡ Some i
+named_found d i m h own once named = decide m.flag
+    (λ flag. outward_found d m i h own flag lt named)
     (λ flag. at flag (position (names m) d.entries) refl)
   where
     lt : i < length d.entries
@@ -160,7 +198,7 @@ flag_false true f is = ap (λ b. bool_eq false (not b)) is
 flag_false false f is = refl
 
 waits_names : (m : Said) (e : Entry) (t : ℕ) (back free : Bool) → m.flag ≡ false → names_call m (waits e t back free).standing ≡ false
-waits_names m e t back free flag = by_cases (offers e t free) _ _ (λ (x : Moved). names_call m x.standing ≡ false) (λ _. flag_false (e.row == m.reference) m.flag flag) (λ _. by_cases (nat_le e.booking.end t) _ _ (λ (x : Moved). names_call m x.standing ≡ false) (λ _. refl) (λ _. refl))
+waits_names m e t back free flag = by_cases (offers e t free) _ _ (λ (x : Moved). names_call m x.standing ≡ false) (λ _. flag_false (e.reference == m.reference) m.flag flag) (λ _. by_cases (nat_le e.booking.end t) _ _ (λ (x : Moved). names_call m x.standing ≡ false) (λ _. refl) (λ _. refl))
 
 second_names : (link : Link) (m : Said) (e : Entry) (t : ℕ) (back free : Bool) (s : Standing) → m.flag ≡ false → names_call m (second_by link e t back free s).standing ≡ true → names_call m s ≡ true
 second_names Up m e t back free (OnCall c a) flag h = second_keeps m t e.booking.end c.reference c.channel c.origin c.state a h

@@ -38,12 +38,11 @@ use Rattle.bx_day.specs.declared.entry.Activity.TheVariants.{Never}
 use Rattle.bx_day.specs.declared.entry.Moved.{Moved}
 use Rattle.bx_day.specs.declared.entry.Standing.{Standing}
 use Rattle.bx_day.specs.declared.entry.Standing.TheVariants.{OnCall}
-use Rattle.bx_day.proofs.Law.{RunFits}
+use Rattle.bx_day.proofs.Law.{RunFits, referred_by_row}
 use Rattle.bx_day.proofs.LiveTurns.{live_once}
 use Rattle.bx_day.proofs.Hear.{heard_by}
 use Rattle.bx_day.proofs.Once.{decide}
 use Rattle.bx_day.proofs.OpeningDay.{opening_is}
-use Rattle.bx_day.proofs.Received.{outward_none}
 use Rattle.bx_day.proofs.Said.{OfSaid}
 use Rattle.bx_day.proofs.Second.{call_of}
 use Rattle.bx_day.proofs.SlotLemmas.{holds_from}
@@ -61,7 +60,7 @@ use Rattle.bx_two_ends.proofs.History.{listed, said_both, said_map, is_setup_kin
 use Rattle.bx_two_ends.proofs.MessageLimits.{NumberOf, heard_ok, unknown_ok}
 use Rattle.bx_two_ends.proofs.NetworkRows.{OnNext, Goes, OfCall, heard_goes, heard_says, shows_connected}
 use Rattle.bx_two_ends.proofs.ExchangeLimits.{CallWithin, StandingWithin, ExchangeWithin}
-use Rattle.bx_two_ends.proofs.Naming.{IsNamedOnce, live_inside, named_found, names_live, set_at}
+use Rattle.bx_two_ends.proofs.Naming.{IsNamedOnce, live_inside, named_found, names_live, outward_none, set_at}
 use Rattle.bx_two_ends.proofs.Turning.{fits_at}
 
 -- ---- by the index of its booking
@@ -398,7 +397,7 @@ near_met rows assigned t d o h m = at o.reference refl m.sendable.out.reference.
         (and_from (z.0.reference == o.reference) (bool_eq (net_flag z.0.origin) (not o.flag)) (eq-eqb z.0.reference o.reference (l.reference ∙ sym ref)) (ap (λ b. bool_eq b (not o.flag)) l.origin ∙ ap (λ b. bool_eq false (not b)) m.flag)) in
         let eq : receive_octets d (out_octets o) ≡ with_moved d i (follows z.1 t (net_message z.0 (heard_from o) t)) =
         receive_sent d o m.sendable
-        ∙ ap (received_at d (said_from o)) (named_found d i (said_from o) h.exchange (near_once rows assigned t d h) named)
+        ∙ ap (received_at d (said_from o)) (named_found d i (said_from o) h.exchange (referred_by_row rows assigned d h.fits) (near_once rows assigned t d h) named)
         ∙ ap (λ n. with_moved d i (hears (said_from o) n (standing_at d i))) h.moment
         ∙ ap (λ s. with_moved d i (hears (said_from o) t s)) z.2 in
         subst (NearMet rows assigned t d o) (sym eq) (met_call rows assigned t d o i z.0 z.1 h ref z.2)
@@ -406,7 +405,7 @@ near_met rows assigned t d o h m = at o.reference refl m.sendable.out.reference.
     over : (i : ℕ) → o.reference ≡ suc i → is_live (standing_at d i) ≡ false → NearMet rows assigned t d o (receive_octets d (out_octets o))
     over i ref down =
         let place : o.reference ≡ i + 1 = omega (arith, ref) in
-        let none : position (names (said_from o)) d.entries ≡ None = outward_none d (said_from o) i h.exchange m.flag place (λ lt. false_from_ne_true (names (said_from o) (entry_at d.entries i)) (λ named. true≢false (sym (names_live (said_from o) (standing_at d i) named) ∙ down))) in
+        let none : position (names (said_from o)) d.entries ≡ None = outward_none d (said_from o) i h.exchange (referred_by_row rows assigned d h.fits) m.flag place (λ lt. false_from_ne_true (names (said_from o) (entry_at d.entries i)) (λ named. true≢false (sym (names_live (said_from o) (standing_at d i) named) ∙ down))) in
         let eq : receive_octets d (out_octets o) ≡ unchanged d (unknown_row Network o.reference false (heard_from o) o.kind) =
         receive_sent d o m.sendable ∙ ap (received_at d (said_from o)) none ∙ stray_is d (said_from o) o.kind m.kind m.flag in
         subst (NearMet rows assigned t d o) (sym eq) (met_stray rows assigned t d o i h m.sendable.out.reference ref down)

@@ -1,6 +1,6 @@
 -- The exchange's seconds, channel by channel, where it alone begins calls: with a link what `NearTicks` says, without one what `near_outlasts` says.
-use Rattle.std.proofs.Common.{◌≡◌, ◌≢◌, ℕ, zero, suc, ◌+◌, ◌≤◌, ◌<◌, ◌==◌, ◌&&◌, ◌||◌, not, nat_le, nat_lt, Bool, true, false, List, [], ◌∷◌, ◌++◌, length, Option, Some, None, refl, sym, ap, subst, ◌∙◌, arith, if◌then◌else◌, inl, inr, ◌⊎◌}
-use Rattle.std.proofs.lemmas.Bool.{false≢true, true≢false, and_from, and_parts, eq-eqb, eqb-true, eqb-false, ne_eqb, not-true, lt-ltb, leb-true, cases_eq, false_from_ne_true}
+use Rattle.std.proofs.Common.{◌≡◌, ◌≢◌, ℕ, zero, suc, ◌+◌, ◌≤◌, ◌<◌, ◌==◌, ◌&&◌, ◌||◌, not, nat_le, Bool, true, false, List, [], ◌∷◌, ◌++◌, length, Option, Some, None, refl, sym, ap, subst, ◌∙◌, arith, if◌then◌else◌, inl, inr, ◌⊎◌}
+use Rattle.std.proofs.lemmas.Bool.{false≢true, true≢false, and_parts, eq-eqb, eqb-true, eqb-false, ne_eqb, not-true, leb-true, cases_eq, false_from_ne_true}
 use Rattle.std.proofs.lemmas.List.{append-nil}
 use Rattle.std.specs.List.{AllByRecursion, flat_map, list_any}
 use Rattle.bx_base.specs.Bookings.{Row, row_at}
@@ -58,7 +58,7 @@ use Rattle.bx_two_ends.proofs.ExchangeLimits.{CallWithin, ExchangeWithin, Standi
 use Rattle.bx_two_ends.proofs.History.{all_map, is_setup_kind, said_both, said_map}
 use Rattle.bx_two_ends.proofs.MessageLimits.{second_ok, setup_ok}
 use Rattle.bx_two_ends.proofs.NearChannel.{IsOutward, LiveAt, NearFits, NearIs, call_at, chan_of, ends_of, follow_outward, follow_said, followed, goes_keeps, idle_outward, live_at, one_live}
-use Rattle.bx_two_ends.proofs.Naming.{live_inside}
+use Rattle.bx_two_ends.proofs.Naming.{live_inside, own_at}
 use Rattle.bx_two_ends.proofs.NetworkRows.{Speaks, second_goes, second_speaks, unlinked_goes}
 use Rattle.bx_two_ends.proofs.Outages.{without_within}
 use Rattle.bx_two_ends.proofs.Outward.{Seat, Seats}
@@ -76,11 +76,10 @@ near_seats rows assigned t d h i accepted =
     let lt : i < length d.entries = accepted_inside d.entries i accepted in
     let inside : i < length rows = subst (λ n. i < n) h.size lt in
     let seat = each_at Seated d.entries i lt h.exchange.seated in
-    let row : (entry_at d.entries i).row ≡ i + 1 = h.exchange.numbered i lt in
-    let few : length d.entries ≤ 4000 = h.exchange.rows in
+    let few : length d.entries ≤ 16000 = h.exchange.rows in
     let frame = h.fits.framed.0 i inside in
     record {
-      row = omega (arith, row);
+      reference = own_at rows assigned d i h.fits h.exchange lt;
       few = omega (arith, few, lt);
       channel = frame.channel;
       in_service = seat.channel accepted;
@@ -146,7 +145,7 @@ unlinked_now rows assigned d early h = record {
       (let e : Entry = entry_at d.entries j in
       let ends : (row_at rows j).end ≡ e.booking.end = sym (ap (λ (r : Row). r.end) (h.fits.framed.0 j lt).booking) in
       after_standing Down d j ∙ ap (λ s. (unlinked_at e (d.moment + 1) s).standing) is ∙ still_waits e (d.moment + 1) (subst (λ n. d.moment + 1 < n) ends later));
-  back = and_from (nat_lt 0 (d.moment + 1)) (d.moment + 1 == d.moment + 1) (lt-ltb 0 (d.moment + 1) (omega arith)) (eq-eqb (d.moment + 1) (d.moment + 1) refl);
+  back = eq-eqb (d.moment + 2) (d.moment + 1 + 1) (omega arith);
   channels = λ j. after_channel Down d j;
 }
   where
@@ -224,7 +223,7 @@ second_sets r ch o t end s = either_sets r ch (not (net_is_clearing s) && nat_le
 -- one that is not live stays so and says nothing, or begins its call
 data Rests (t : ℕ) (e : Entry) (back free : Bool) (m : Moved) : Type 0 where
   Quiet : is_live m.standing ≡ false → m.said ≡ None → Rests t e back free m
-  Begins : free ≡ true → t < e.booking.end → m.standing ≡ OnCall (net_offered e.row e.channel e.booking.number back t) Never → m.said ≡ Some (setup_of e.row e.channel e.booking.number) → Rests t e back free m
+  Begins : free ≡ true → t < e.booking.end → m.standing ≡ OnCall (net_offered e.reference e.channel e.booking.number back t) Never → m.said ≡ Some (setup_of e.reference e.channel e.booking.number) → Rests t e back free m
 
 waits_rests : (t : ℕ) (e : Entry) (back free : Bool) → Rests t e back free (waits e t back free)
 waits_rests t e back free = by_cases (offers e t free) _ _ (Rests t e back free)
@@ -249,15 +248,15 @@ whole_second t e back free (OnCall c a) h = unbroken a t (net_second c t e.booki
 whole_second t e back free Unoffered h = whole_waits t e back free
 whole_second t e back free s h = refl
 
-waits_outward : (i t : ℕ) (e : Entry) (back free : Bool) → e.row ≡ suc i → IsOutward i (waits e t back free).standing
-waits_outward i t e back free row = by_cases (offers e t free) _ _ (λ (m : Moved). IsOutward i m.standing) (λ _. (row, refl)) (λ _. by_cases (nat_le e.booking.end t) _ _ (λ (m : Moved). IsOutward i m.standing) (λ _. tt) (λ _. tt))
+waits_outward : (i t : ℕ) (e : Entry) (back free : Bool) → e.reference ≡ suc i → IsOutward i (waits e t back free).standing
+waits_outward i t e back free own = by_cases (offers e t free) _ _ (λ (m : Moved). IsOutward i m.standing) (λ _. (own, refl)) (λ _. by_cases (nat_le e.booking.end t) _ _ (λ (m : Moved). IsOutward i m.standing) (λ _. tt) (λ _. tt))
 
-second_outward : (i t : ℕ) (e : Entry) (back free : Bool) (s : Standing) → (is_refused s ≡ false → e.row ≡ suc i) → IsOutward i s → StandingWithin s → IsOutward i (second_at e t back free s).standing
-second_outward i t e back free (OnCall c a) row out w =
+second_outward : (i t : ℕ) (e : Entry) (back free : Bool) (s : Standing) → (is_refused s ≡ false → e.reference ≡ suc i) → IsOutward i s → StandingWithin s → IsOutward i (second_at e t back free s).standing
+second_outward i t e back free (OnCall c a) own out w =
     let step : Transition PlainNetCall = net_second c t e.booking.end in
     (follow_outward i a t step.reply step.next (goes_keeps i c c.state false step.reply step.next out w (second_goes c.reference c.channel c.origin t e.booking.end c.state))).0
-second_outward i t e back free Unoffered row out w = waits_outward i t e back free (row refl)
-second_outward i t e back free s row out w = out
+second_outward i t e back free Unoffered own out w = waits_outward i t e back free (own refl)
+second_outward i t e back free s own out w = out
 
 -- ---- what a tick says
 
@@ -309,9 +308,9 @@ entry_tells rows assigned d i h = decide (is_live (standing_at d i)) live idle
         at (Begins free early is said) =
             let accepted : is_refused (standing_at d i) ≡ false = in_refused Up (d.moment + 1) (is_back d) (is_free d (entry_at d.entries i).channel) (entry_at d.entries i) (standing_at d i) (ap is_refused is) in
             let s : Seat assigned i (entry_at d.entries i) = near_seats rows assigned d.moment d h i accepted in
-            let r : IsCallReference (entry_at d.entries i).row = (omega (arith, s.row), omega (arith, s.row, s.few)) in
+            let r : IsCallReference (entry_at d.entries i).reference = (omega (arith, s.reference), omega (arith, s.reference, s.few)) in
             subst (λ x. OfSaid (TellsOn (chan_of assigned) (entry_at d.entries i).channel) x) (sym said)
-            (begins_tells (chan_of assigned) i (entry_at d.entries i).channel (entry_at d.entries i).row (entry_at d.entries i).booking.number s.row (sym s.channel) r s.in_service s.number)
+            (begins_tells (chan_of assigned) i (entry_at d.entries i).channel (entry_at d.entries i).reference (entry_at d.entries i).booking.number s.reference (sym s.channel) r s.in_service s.number)
 
 -- ---- what is said on a channel
 
@@ -415,7 +414,7 @@ tick_fits rows assigned d early h whole =
       clean = marks_kept Up d (λ j. whole_second (d.moment + 1) (entry_at d.entries j) (is_back d) (is_free d (entry_at d.entries j).channel) (standing_at d j)
           (λ c a is. subst (λ n. IsUnbrokenNear (net_second c (d.moment + 1) n).next) (sym (end_at rows assigned d j c (live_at rows assigned d.moment d j c a h is))) (whole j c a is))) h.clean;
       moment = refl;
-      outward = λ i. subst (IsOutward i) (sym (after_standing Up d i)) (second_outward i (d.moment + 1) (entry_at d.entries i) (is_back d) (is_free d (entry_at d.entries i).channel) (standing_at d i) (λ accepted. (seats i accepted).row) (h.outward i) (h.within i));
+      outward = λ i. subst (IsOutward i) (sym (after_standing Up d i)) (second_outward i (d.moment + 1) (entry_at d.entries i) (is_back d) (is_free d (entry_at d.entries i).channel) (standing_at d i) (λ accepted. (seats i accepted).reference) (h.outward i) (h.within i));
       within = subst (λ (s : Day). ExchangeWithin s) (ap (λ s. s.day) (tick_is d early)) (tick_within assigned d seats h.within);
     }
 
@@ -518,14 +517,13 @@ tick_none rows assigned d k h after ok near = at (find (holds k) (ticked d).day.
             let there : i < length d.entries = subst (λ n. i < n) (map_size Up d d.entries) (live_inside (ticked d).day.entries i up) in
             let inside : i < length rows = subst (λ n. i < n) h.size there in
             let number : List ℕ = e.booking.number in
-            let place : e.row ≡ i + 1 = h.exchange.numbered i there in
-            let row : e.row ≡ suc i = omega (arith, place) in
+            let own : e.reference ≡ suc i = own_at rows assigned d i h.fits h.exchange there in
             let ends : e.booking.end ≡ (row_at rows i).end = ap (λ (r : Row). r.end) (h.fits.framed.0 i inside).booking in
             record {
               left = near_begun (suc i) number k (is_back d) (d.moment + 1);
               ticks = inr (suc i, number, subst (λ n. d.moment + 1 < n) ends early, refl);
-              near = (i, Never, after_standing Up d i ∙ is ∙ ap (λ r. OnCall (net_offered r e.channel number (is_back d) (d.moment + 1)) Never) row ∙ ap (λ n. OnCall (net_offered (suc i) n number (is_back d) (d.moment + 1)) Never) on, after_channel Up d i ∙ on);
-              said = said_on_one rows assigned d k h ok ∙ one_says d k d.entries i there on (λ j other off. (still j other off).1) ∙ ap reply_list said ∙ ap (λ r. setup_of r e.channel number ∷ []) row ∙ ap (λ n. setup_of (suc i) n number ∷ []) on;
+              near = (i, Never, after_standing Up d i ∙ is ∙ ap (λ r. OnCall (net_offered r e.channel number (is_back d) (d.moment + 1)) Never) own ∙ ap (λ n. OnCall (net_offered (suc i) n number (is_back d) (d.moment + 1)) Never) on, after_channel Up d i ∙ on);
+              said = said_on_one rows assigned d k h ok ∙ one_says d k d.entries i there on (λ j other off. (still j other off).1) ∙ ap reply_list said ∙ ap (λ r. setup_of r e.channel number ∷ []) own ∙ ap (λ n. setup_of (suc i) n number ∷ []) on;
             }
 
 waits_or_lives : (e : Entry) (t : ℕ) (back free : Bool) → t < e.booking.end → ((waits e t back free).standing ≡ Unoffered) ⊎ (is_live (waits e t back free).standing ≡ true)

@@ -1,4 +1,4 @@
--- What both ends make of messages on one channel, where the script of the far end answers each call at once, and calls nobody: the
+-- What both ends make of messages on one channel, where the script of the far end answers each call, and calls nobody: the
 -- call there, if there is one, and what is said. Calls of other channels have no part in it.
 use Rattle.std.specs.Prelude.{◌≡◌, ◌⊎◌, ℕ, ◌<◌, ◌==◌, Bool, true, false, List, [], ◌∷◌, ◌++◌, Option, Some, None, option_map, if◌then◌else◌}
 use Rattle.bx_q931.specs.Outgoing.{Outgoing}
@@ -91,20 +91,34 @@ far_left Broken = None
 abbrev pub far_stepped : Transition PlainUserCall → Left PlainUserCall
 far_stepped step = record { call = far_left step.next; said = reply_list step.reply }
 
+-- how many seconds the far end lets a called number ring; none, where its script answers each call at once
+abbrev pub none_waits : Option (List ℕ) → ℕ
+none_waits called = 0
+
 -- a message with the reference of another call, or of none: a SETUP is taken where the channel is not held
-abbrev pub far_strays : ℕ → ℕ → Option PlainUserCall → Outgoing → Kind → Left PlainUserCall
-far_strays t k None o Setup = left_as (Some (user_offered o.reference k (Answer 0) t))
-far_strays t k (Some call) o Setup = record { call = Some call; said = refusal_of User o.reference true 44 ∷ [] }
-far_strays t k call o kind = record { call = call; said = reply_list (unknown_row User o.reference true (heard_from o) kind) }
+abbrev pub far_strays_by : (Option (List ℕ) → ℕ) → ℕ → ℕ → Option PlainUserCall → Outgoing → Kind → Left PlainUserCall
+far_strays_by wait t k None o Setup = left_as (Some (user_offered o.reference k (Answer (wait o.called)) t))
+far_strays_by wait t k (Some call) o Setup = record { call = Some call; said = refusal_of User o.reference true 44 ∷ [] }
+far_strays_by wait t k call o kind = record { call = call; said = reply_list (unknown_row User o.reference true (heard_from o) kind) }
 
 -- a message at moment t, on channel k
+abbrev pub far_meets_by : (Option (List ℕ) → ℕ) → ℕ → ℕ → Option PlainUserCall → Outgoing → Left PlainUserCall
+far_meets_by wait t k None o = far_strays_by wait t k None o o.kind
+far_meets_by wait t k (Some call) o = if call.reference == o.reference then far_stepped (user_message call (heard_from o) t) else far_strays_by wait t k (Some call) o o.kind
+
+abbrev pub far_meets_all_by : (Option (List ℕ) → ℕ) → ℕ → ℕ → Option PlainUserCall → List Outgoing → Left PlainUserCall
+far_meets_all_by wait t k call [] = left_as call
+far_meets_all_by wait t k call (o ∷ os) = left_then (far_meets_by wait t k call o) (far_meets_all_by wait t k (far_meets_by wait t k call o).call os)
+
+-- the same where none waits
+abbrev pub far_strays : ℕ → ℕ → Option PlainUserCall → Outgoing → Kind → Left PlainUserCall
+far_strays t k call o kind = far_strays_by none_waits t k call o kind
+
 abbrev pub far_meets : ℕ → ℕ → Option PlainUserCall → Outgoing → Left PlainUserCall
-far_meets t k None o = far_strays t k None o o.kind
-far_meets t k (Some call) o = if call.reference == o.reference then far_stepped (user_message call (heard_from o) t) else far_strays t k (Some call) o o.kind
+far_meets t k call o = far_meets_by none_waits t k call o
 
 abbrev pub far_meets_all : ℕ → ℕ → Option PlainUserCall → List Outgoing → Left PlainUserCall
-far_meets_all t k call [] = left_as call
-far_meets_all t k call (o ∷ os) = left_then (far_meets t k call o) (far_meets_all t k (far_meets t k call o).call os)
+far_meets_all t k call os = far_meets_all_by none_waits t k call os
 
 -- a tick to moment t
 abbrev pub far_passes : ℕ → Option PlainUserCall → Left PlainUserCall

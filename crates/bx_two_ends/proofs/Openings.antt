@@ -14,7 +14,7 @@ use Rattle.bx_two_ends.specs.World.{world_opening}
 use Rattle.bx_two_ends.specs.Scripts.{AreScriptRows}
 use Rattle.bx_two_ends.proofs.Outward.{Seats, OutwardStanding, KeepsOutward}
 
-seated : (k : ℕ) (rows : List Row) (assigned : List (Option ℕ)) (i n : ℕ) → k + i ≡ n → is_refused (entry_at (entries_from k rows assigned) i).standing ≡ false → (i < length rows) × ((entry_at (entries_from k rows assigned) i).row ≡ n)
+seated : (k : ℕ) (rows : List Row) (assigned : List (Option ℕ)) (i n : ℕ) → k + i ≡ n → is_refused (entry_at (entries_from k rows assigned) i).standing ≡ false → (i < length rows) × ((entry_at (entries_from k rows assigned) i).reference ≡ n)
 seated k (b ∷ bs) [] (suc i) n q h = let r = seated (k + 1) bs [] i n (omega (arith, q)) h in (omega (arith, r.0), r.1)
 seated k (b ∷ bs) (Some c ∷ as') zero n q h = (omega arith, same k n q)
   where
@@ -33,14 +33,14 @@ opening_seats rows channels assigned b set h i q =
     let f : IsFrame (row_at rows i) (slice_index_or assigned i None) (entry_at (entries_from 1 rows assigned) i) = opening_framed 1 rows assigned i p.0 in
     let few = b.few in
     record {
-      row = p.1;
+      reference = p.1;
       few = less i (length rows) p.0 b.few;
       channel = f.channel;
       in_service = subst IsChannel (sym f.channel) (set.only (channel_at assigned i) (h.in_service i p.0 (not_back (is_accepted assigned i) (sym q ∙ f.accepted))));
       number = subst (λ (r : Row). IsNumber r.number) (sym f.booking) (b.each i p.0).number;
     }
   where
-    less : (x y : ℕ) → x < y → y ≤ 4000 → x ≤ 3999
+    less : (x y : ℕ) → x < y → y ≤ 16000 → x ≤ 15999
     less x y l m = omega (arith, l, m)
 
 opening_standings : (k : ℕ) (rows : List Row) (assigned : List (Option ℕ)) (i r : ℕ) → OutwardStanding r [] [] (entry_at (entries_from k rows assigned) i).standing

@@ -43,7 +43,7 @@ pub without_seats : (assigned : List (Option ℕ)) (d : Day) → Seats assigned 
 without_seats assigned d seats i q =
     let e = entry_at d.entries i in
     let p : Seat assigned i e = seats i (in_refused Down (d.moment + 1) (is_back d) (is_free d e.channel) e e.standing (sym (ap is_refused (without_at d i)) ∙ q)) in
-    subst (Seat assigned i) (sym (at_map_in Down d d.entries i)) (record { row = p.row; few = p.few; channel = p.channel; in_service = p.in_service; number = p.number })
+    subst (Seat assigned i) (sym (at_map_in Down d d.entries i)) (record { reference = p.reference; few = p.few; channel = p.channel; in_service = p.in_service; number = p.number })
 
 alone_outward : (i t : ℕ) (sent far_sent : List Outgoing) (e : Entry) (s : Standing) → OutwardStanding (suc i) sent far_sent s → OutwardStanding (suc i) (sent ++ []) far_sent (unlinked_at e t s).standing
 alone_outward i t sent far_sent e Refused h = tt

@@ -65,8 +65,8 @@ is_calm _ = false
 
 -- where a booking of the plan stands: what no event changes
 pub record Seat (assigned : List (Option ℕ)) (i : ℕ) (e : Entry) : Type 0 where
-  pub row : e.row ≡ suc i
-  pub few : i ≤ 3999
+  pub reference : e.reference ≡ suc i
+  pub few : i ≤ 15999
   pub channel : e.channel ≡ channel_at assigned i
   pub in_service : IsChannel e.channel
   pub number : IsNumber e.booking.number

@@ -31,7 +31,7 @@ use Rattle.bx_day.specs.declared.entry.Standing.{Standing}
 use Rattle.bx_day.specs.declared.entry.Standing.TheVariants.{Refused, Unoffered, OnCall}
 use Rattle.bx_day.proofs.Law.{RunFits, at_map_in}
 use Rattle.bx_day.proofs.LiveTurns.{live_once}
-use Rattle.bx_two_ends.proofs.Naming.{live_inside}
+use Rattle.bx_two_ends.proofs.Naming.{live_inside, own_at}
 use Rattle.bx_day.proofs.Once.{each_at}
 use Rattle.bx_calls.specs.Sending.{Sent}
 use Rattle.bx_day.proofs.Passing.{tick_is, map_size}
@@ -102,13 +102,13 @@ first_present : (back : Bool) (due : ℕ) → PresentIn (net.CallPresent (first_
 first_present true due = tt
 first_present false due = tt
 
-waits_moves : (i t : ℕ) (e : Entry) (back free : Bool) → e.row ≡ suc i → IsCallReference e.row → IsChannel e.channel → IsNumber e.booking.number → MovesAt e.channel i false (waits e t back free)
-waits_moves i t e back free row rok cok nok = by_cases (offers e t free) _ _ (MovesAt e.channel i false)
+waits_moves : (i t : ℕ) (e : Entry) (back free : Bool) → e.reference ≡ suc i → IsCallReference e.reference → IsChannel e.channel → IsNumber e.booking.number → MovesAt e.channel i false (waits e t back free)
+waits_moves i t e back free own rok cok nok = by_cases (offers e t free) _ _ (MovesAt e.channel i false)
     (λ _. record {
-      said = (SetsAt e.booking.number refl (ap (λ r. setup_of r e.channel e.booking.number) row), setup_ok e.row e.channel e.booking.number rok cok nok);
-      sets = λ _. and_from (from_beginner (suc i) (setup_of e.row e.channel e.booking.number)) true (is_from_beginner (suc i) (setup_of e.row e.channel e.booking.number) row refl) refl;
+      said = (SetsAt e.booking.number refl (ap (λ r. setup_of r e.channel e.booking.number) own), setup_ok e.reference e.channel e.booking.number rok cok nok);
+      sets = λ _. and_from (from_beginner (suc i) (setup_of e.reference e.channel e.booking.number)) true (is_from_beginner (suc i) (setup_of e.reference e.channel e.booking.number) own refl) refl;
       ends = λ q. absurd (false≢true q);
-      stands = Rings (first_present back (t + 4), (row, refl)) refl;
+      stands = Rings (first_present back (t + 4), (own, refl)) refl;
     })
     (λ _. by_cases (nat_le e.booking.end t) _ _ (MovesAt e.channel i false)
     (λ _. record { said = tt; sets = λ q. absurd (false≢true q); ends = λ q. absurd (false≢true q); stands = Idle refl refl })
@@ -116,8 +116,8 @@ waits_moves i t e back free row rok cok nok = by_cases (offers e t free) _ _ (Mo
 
 -- what is needed of a booking
 pub record Booked (i : ℕ) (e : Entry) : Type 0 where
-  pub row : e.row ≡ suc i
-  pub reference : IsCallReference e.row
+  pub own : e.reference ≡ suc i
+  pub reference : IsCallReference e.reference
   pub channel : IsChannel e.channel
   pub number : IsNumber e.booking.number
 
@@ -129,7 +129,7 @@ talking_moves i t e c a k talks fits = at c.state c.origin talks.0 talks.1.1
       where
         go : (b : Bool) → MovesAt e.channel i true (follows a (t + 1) (if b then net_disconnects (call_of c.reference c.channel (Outward called) net.Active) 16 (t + 1) else net_same (call_of c.reference c.channel (Outward called) net.Active) None))
         go true = record {
-          said = (EndsAt refl talks.1.0 refl refl, cause_is_ok c.reference (subst IsCallReference (k.row ∙ sym talks.1.0) k.reference));
+          said = (EndsAt refl talks.1.0 refl refl, cause_is_ok c.reference (subst IsCallReference (k.own ∙ sym talks.1.0) k.reference));
           sets = λ h. absurd (false≢true h);
           ends = λ _. and_from (from_beginner (suc i) (net_says_cause (call_of c.reference c.channel (Outward called) net.Active) Disconnect 16)) true (is_from_beginner (suc i) (net_says_cause (call_of c.reference c.channel (Outward called) net.Active) Disconnect 16) talks.1.0 refl) refl;
           stands = Ended (tt, (talks.1.0, refl)) refl;
@@ -147,7 +147,7 @@ talking_moves i t e c a k talks fits = at c.state c.origin talks.0 talks.1.1
 -- any booking, where each live call is Active
 pub booking_moves : (i t : ℕ) (e : Entry) (back free : Bool) (s : Standing) → (is_refused s ≡ false → Booked i e) → StandingFits t e s → (is_live s ≡ true → OutwardIn ActiveIn i s) → MovesAt e.channel i (is_live s) (second_at e (t + 1) back free s)
 booking_moves i t e back free (OnCall c a) k fits talks = talking_moves i t e c a (k refl) (talks refl) fits
-booking_moves i t e back free Unoffered k fits talks = waits_moves i (t + 1) e back free (k refl).row (k refl).reference (k refl).channel (k refl).number
+booking_moves i t e back free Unoffered k fits talks = waits_moves i (t + 1) e back free (k refl).own (k refl).reference (k refl).channel (k refl).number
 booking_moves i t e back free s k fits talks = record { said = tt; sets = λ q. absurd (false≢true q); ends = λ q. absurd (false≢true q); stands = Idle refl refl }
 
 -- ---- a day
@@ -169,10 +169,9 @@ booked_at rows assigned d i h accepted =
     let lt : i < length d.entries = accepted_inside d.entries i accepted in
     let inside : i < length rows = subst (λ n. i < n) h.size lt in
     let seat = each_at Seated d.entries i lt h.exchange.seated in
-    let row : (entry_at d.entries i).row ≡ i + 1 = h.exchange.numbered i lt in
     record {
-      row = omega (arith, row);
-      reference = seat.row;
+      own = own_at rows assigned d i h.fits h.exchange lt;
+      reference = seat.reference;
       channel = seat.channel accepted;
       number = subst (λ (r : Row). IsNumber r.number) (sym (h.fits.framed.0 i inside).booking) (h.bookings.each i inside).number;
     }

@@ -6,6 +6,7 @@ use Rattle.std.specs.List.{AllByRecursion}
 use Rattle.bx_base.specs.Bookings.{Row, AreBookings, Carries}
 use Rattle.bx_base.specs.Channels.{IsChannelSet}
 use Rattle.bx_base.specs.Plans.{is_accepted, channel_at}
+use Rattle.bx_events.specs.declared.moment.TheConstants.{LAST_MOMENT}
 use Rattle.bx_q931.specs.Outgoing.{Outgoing, out_octets}
 use Rattle.bx_calls.specs.Sending.{reply_list}
 use Rattle.bx_calls.specs.declared.user_state.Policy.TheVariants.{Answer}
@@ -84,5 +85,5 @@ AnswersAtOnce script = AllByRecursion IsFollows script
 abbrev pub FarAnswers : Type 0
 FarAnswers =
     (rows : List Row) (channels : List Bool) (assigned : List (Option ℕ)) (script : List ScriptRow) (turns : ℕ)
-    → AreBookings rows → IsChannelSet channels → Carries rows channels (is_accepted assigned) (channel_at assigned) → AnswersAtOnce script → turns ≤ 300000
+    → AreBookings rows → IsChannelSet channels → Carries rows channels (is_accepted assigned) (channel_at assigned) → AnswersAtOnce script → turns ≤ LAST_MOMENT
     → AnswersAll (turns_from turns (ends_opening rows assigned script)) (opening rows assigned)

@@ -27,21 +27,21 @@ pub fn two_ends_inward()
 {}
 
 /// Every script that is read keeps the premise of both laws: its rows that call name a number of 1 to 15 digits and a
-/// B channel. That it has at most 4,000 rows is in the type of what `Script::read` answers.
+/// B channel. That it has at most 16,000 rows is in the type of what `Script::read` answers.
 pub fn scripts_fit()
     ensures { ScriptsFit }
 {}
 
 /// A far end whose script answers each call at once, and calls nobody, answers by its messages in each turn of a day of both ends
-/// over a link that loses nothing. So what is planned is earned then (`bx_day::laws::turns_are_answered`, `planned_is_carried`).
+/// over a link that loses nothing. So what is planned is earned then (`earned::turns_are_answered`, `planned_is_carried`).
 pub fn far_answers()
     ensures { FarAnswers }
 {}
 
-/// A day of both ends in one process (`run_both_ends` of `bx_link`) that went through all its turns, over connections whose readers give
-/// what the other end writes, is one of both ends in turns over a link that loses nothing, of every carried plan and every script. So where
-/// the script answers each call at once, and calls nobody, each accepted outward booking of two seconds or more is carried to its end, from
-/// a second after its start at the latest; and where all are such, what is paid for carried calls is the plan's total.
+/// A day of both ends in one process (`run_both_ends` of `bx_sessions`) that went through all its turns, over connections whose readers
+/// give what the other end writes, is one of both ends in turns over a link that loses nothing, of every carried plan and every script. So
+/// where the script answers each call at once, and calls nobody, each accepted outward booking of two seconds or more is carried to its
+/// end, from a second after its start at the latest; and where all are such, what is paid for carried calls is the plan's total.
 pub fn one_process<R: Read, W: Write, S: Read, T: Write>()
     ensures in_turns { IsOneProcessInTurns R W S T }
     ensures carried { IsOneProcessCarried R W S T }

@@ -4,3 +4,4 @@
 
 pub mod earned;
 pub mod laws;
+pub mod ringing;

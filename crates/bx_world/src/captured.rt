@@ -2,6 +2,7 @@
 
 ghost use Rattle.std.specs.Prelude.{◌≡◌, ◌≤◌};
 ghost use Rattle.bx_capture.specs.Captures.{is_unfaulted};
+ghost use Rattle.bx_capture.specs.declared.start.TheConstants.{LAST_START};
 ghost use Rattle.bx_events.specs.declared.moment.TheConstants.{LAST_MOMENT};
 
 use bx_capture::{Direction, is_whole, keep, keep_sent};
@@ -20,7 +21,7 @@ pub struct CapturedWorld<W, F> {
     pub file: Option<Watched<F>>,
     first: u32,
     second: u32,
-    ghost limit: { first ≤ 4294667295 },
+    ghost limit: { first ≤ LAST_START },
     ghost day: { second ≤ LAST_MOMENT },
 }
 
@@ -28,9 +29,9 @@ impl<W, F: Write> CapturedWorld<W, F> {
     ghost use Rattle.bx_world.specs.Captures.{first_second};
 
     /// Captures a world from now on, into the file where there is one. Moment 0 is the first second. That is at most
-    /// 4,294,667,295, so that 32 bits number each of the 300,000 seconds after it.
+    /// `LAST_START`, so that 32 bits number each of the 300,000 seconds after it.
     pub fn new(world: W, file: Option<Watched<F>>, first: u32) -> Self
-        requires { first ≤ 4294667295 }
+        requires { first ≤ LAST_START }
         ensures world { result.world ≡ world }
         ensures file { result.file ≡ file }
         ensures first { first_second result ≡ first }

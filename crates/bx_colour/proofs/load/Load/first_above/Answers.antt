@@ -1,35 +1,18 @@
-use Rattle.std.proofs.Common.{◌≡◌, ◌<◌, ◌≤◌, ℕ, ap, Some, arith, subst, inl, inr}
-use Rattle.std.proofs.lemmas.Bool.{cases_lt}
+use Rattle.std.proofs.Common.{◌≡◌, ℕ, List, ◌∙◌, ap, arith}
+use Rattle.bx_colour.specs.Counted.{counted_to, running_between}
 use Rattle.bx_colour.specs.Loads.{load_at}
-use Rattle.bx_colour.proofs.LoadLemmas.{counted_next, one_first}
 use Rattle.bx_colour.proofs.load.Load.first_above.Goals as goal
 
-pub overflow_add-running : goal.overflow_add-running
-overflow_add-running c =
+pub returns-clause-first : goal.returns-clause-first
+returns-clause-first c =
     let load = c.args.self.now in
-    let m = c.loop-moment.moment in
-    omega (arith, c.loop-moment.invariant.so_far, counted_next load.starts m, load.few m)
-
-pub overflow_sub-running : goal.overflow_sub-running
-overflow_sub-running c =
-    let load = c.args.self.now in
-    let m = c.loop-moment.moment in
-    omega (arith, c.loop-moment.invariant.so_far, counted_next load.starts m, counted_next load.ends m, load.ordered m)
-
-pub returns-then-running-from-clause-first : goal.returns-then-running-from-clause-first
-returns-then-running-from-clause-first c =
-    let load = c.args.self.now in
-    let m = c.loop-moment.moment in
-    let here : c.args.limit < load_at load m = omega (arith, c.loop-moment.invariant.so_far, counted_next load.starts m, counted_next load.ends m, load.ordered m, c.if-running-from.true, c.from.ensures) in
+    let starts = c.as_slice.result.now in
+    let ends = c.as_slice-2.result.now in
+    let all : (t : ℕ) → running_between starts ends t ≡ load_at load t = (λ t.
+    let first : counted_to starts t ≡ counted_to load.starts.items t = ap (λ (xs : List ℕ). counted_to xs t) c.as_slice.ensures.value ∙ c.sort.ensures.counted t in
+    let last : counted_to ends t ≡ counted_to load.ends.items t = ap (λ (xs : List ℕ). counted_to xs t) c.as_slice-2.ensures.value ∙ c.sort-2.ensures.counted t in
+    omega (arith, first, last)) in
     λ t. (
-      λ e. let same : m ≡ t = cc in subst (λ x. (c.args.limit < load_at load x) × ((s : ℕ) → s < x → load_at load s ≤ c.args.limit)) same (here, c.loop-moment.invariant.none),
-      λ h. ap (λ x. Some x) (one_first (load_at load) c.args.limit m t here c.loop-moment.invariant.none h.0 h.1),
+      λ e. let h = (c.first_between.ensures.first t).0 e in (omega (arith, h.0, all t), λ s b. omega (arith, h.1 s b, all s)),
+      λ h. (c.first_between.ensures.first t).1 (omega (arith, h.0, all t), λ s b. omega (arith, h.1 s b, all s)),
     )
-
-pub returns-clause-none : goal.returns-clause-none
-returns-clause-none c =
-    let load = c.args.self.now in
-    λ t. elim (cases_lt t 200000) [
-      | inl h ↦ c.loop-moment.invariant.none t (omega (arith, h, c.loop-moment-test.false))
-      | inr h ↦ omega (arith, load.over t h)
-    ]

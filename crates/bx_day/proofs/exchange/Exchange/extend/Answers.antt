@@ -21,7 +21,7 @@ linked-requires-clause-few c =
     let at = c.moment-moment.ensures.value ∙ ap (λ (d : Day). d.moment) (sym c.self.view_is) in
     let goes_on = tested d plan.bookings plan.assigned.items c.moment-moment.result c.len.result c.deref.result.now at c.deref.ensures.value (c.len.ensures ∙ x.entries.ok.0) (c.are_kept.ensures.0 c.if-not-are_kept.false) (c.are_later.ensures.0 c.if-not-are_later.false) in
     let all_is = c.in-Ok.ensures ∙ ap (λ (es : List Entry). with_standings es (entries_from 1 plan.bookings plan.assigned.items)) c.deref-2.ensures.value in
-    subst (λ (es : List Entry). length es ≤ 4000) (sym (c.deref-3.ensures.value ∙ all_is)) (exchange_extended d plan.bookings plan.channels plan.assigned.items x.live x.waiting x.following.items c.len-rows.ensures.bookings c.count-channels.ensures.set c.requires c.self.invariant.exchange c.self.invariant.slots goes_on).rows
+    subst (λ (es : List Entry). length es ≤ 16000) (sym (c.deref-3.ensures.value ∙ all_is)) (exchange_extended d plan.bookings plan.channels plan.assigned.items x.live x.waiting x.following.items c.len-rows.ensures.bookings c.count-channels.ensures.set c.requires c.self.invariant.exchange c.self.invariant.slots goes_on).rows
 
 pub linked-requires-clause-seated : goal.linked-requires-clause-seated
 linked-requires-clause-seated c =
@@ -61,7 +61,7 @@ first_waiting-self-inside-requires-clause-few c =
     let at = c.moment-moment.ensures.value ∙ ap (λ (d : Day). d.moment) (sym c.self.view_is) in
     let goes_on = tested d plan.bookings plan.assigned.items c.moment-moment.result c.len.result c.deref.result.now at c.deref.ensures.value (c.len.ensures ∙ x.entries.ok.0) (c.are_kept.ensures.0 c.if-not-are_kept.false) (c.are_later.ensures.0 c.if-not-are_later.false) in
     let all_is = c.in-Ok.ensures ∙ ap (λ (es : List Entry). with_standings es (entries_from 1 plan.bookings plan.assigned.items)) c.deref-2.ensures.value in
-    subst (λ (es : List Entry). length es ≤ 4000) (sym (c.deref-4.ensures.value ∙ all_is)) (exchange_extended d plan.bookings plan.channels plan.assigned.items x.live x.waiting x.following.items c.len-rows.ensures.bookings c.count-channels.ensures.set c.requires c.self.invariant.exchange c.self.invariant.slots goes_on).rows
+    subst (λ (es : List Entry). length es ≤ 16000) (sym (c.deref-4.ensures.value ∙ all_is)) (exchange_extended d plan.bookings plan.channels plan.assigned.items x.live x.waiting x.following.items c.len-rows.ensures.bookings c.count-channels.ensures.set c.requires c.self.invariant.exchange c.self.invariant.slots goes_on).rows
 
 pub first_waiting-self-inside-requires-clause-seated : goal.first_waiting-self-inside-requires-clause-seated
 first_waiting-self-inside-requires-clause-seated c =

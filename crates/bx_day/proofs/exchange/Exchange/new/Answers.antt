@@ -13,7 +13,7 @@ use Rattle.bx_day.proofs.exchange.Exchange.new.Goals as goal
 pub linked-requires-clause-few : goal.linked-requires-clause-few
 linked-requires-clause-few c =
     let plan = c.args.plan.now in
-    subst (λ (es : List Entry). length es ≤ 4000) (sym (c.deref.ensures.value ∙ c.in_ok-entries.ensures)) (opening_is plan.bookings plan.channels plan.assigned.items c.len-rows.ensures.bookings c.count-channels.ensures.set c.requires).rows
+    subst (λ (es : List Entry). length es ≤ 16000) (sym (c.deref.ensures.value ∙ c.in_ok-entries.ensures)) (opening_is plan.bookings plan.channels plan.assigned.items c.len-rows.ensures.bookings c.count-channels.ensures.set c.requires).rows
 
 pub linked-requires-clause-seated : goal.linked-requires-clause-seated
 linked-requires-clause-seated c =
