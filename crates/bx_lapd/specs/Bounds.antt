@@ -2,15 +2,16 @@
 use Rattle.std.specs.Prelude.{◌≡◌, ℕ, ◌<◌, ◌≤◌, true, length}
 use Rattle.std.specs.List.{AllByRecursion}
 use Rattle.arrayvec.specs.ArrayVec.{ArrayVec}
+use Rattle.bx_q931.specs.declared.reading.TheConstants.{MAX_MESSAGE}
 use Rattle.bx_lapd.specs.declared.words.ErrorCode.{ErrorCode}
 use Rattle.bx_lapd.specs.declared.frame.Frame.{Frame}
 use Rattle.bx_lapd.specs.declared.frame.Frame.TheVariants.{Information, Numbered, Plain}
 use Rattle.bx_lapd.specs.Links.{Link, LinkStep, outstanding, is_link_up}
 use Rattle.bx_lapd.specs.Table.{establish, release, give, elapse, hear, hear_fault}
 
--- N201: a message has at most 260 octets, so a frame has at most 264 before its check sequence
+-- N201 is `MAX_MESSAGE`: a message has at most 260 octets, so a frame has at most 264 before its check sequence
 abbrev pub IsShortEnough : ArrayVec ℕ → Type 0
-IsShortEnough m = length m.items ≤ 260
+IsShortEnough m = length m.items ≤ MAX_MESSAGE
 
 abbrev pub IsFrame : Frame → Type 0
 IsFrame (Information poll ns nr m) = (ns < 128) × (nr < 128) × IsShortEnough m

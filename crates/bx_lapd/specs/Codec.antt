@@ -1,6 +1,7 @@
 -- Octets of frames (ITU-T Q.921, 2.2 to 2.9 and 3.2 to 3.6), as an HDLC device gives and takes them: address, control, information, and
 -- the frame check sequence.
 use Rattle.std.specs.Prelude.{ℕ, zero, suc, ◌+◌, ◌-◌, ◌*◌, ◌/◌, ◌%◌, ◌==◌, nat_lt, ◌||◌, not, bit_and, bit_xor, Bool, true, false, List, [], ◌∷◌, ◌++◌, length, take, drop, get_or, Option, Some, None, Result, Ok, Err, if◌then◌else◌}
+use Rattle.bx_q931.specs.declared.reading.TheConstants.{MAX_MESSAGE}
 use Rattle.bx_lapd.specs.declared.words.Supervisory.{Supervisory}
 use Rattle.bx_lapd.specs.declared.words.Supervisory.TheVariants.{ReceiveReady, ReceiveNotReady, Reject}
 use Rattle.bx_lapd.specs.declared.words.Unnumbered.{Unnumbered}
@@ -107,8 +108,8 @@ may_be _ command = not command
 
 -- what an information field of so many octets is refused for
 abbrev pub fault_of_length : Unnumbered → ℕ → Option ErrorCode
-fault_of_length u.Ui n = if nat_lt 260 n then Some error.TooLong else None
-fault_of_length u.Xid n = if nat_lt 260 n then Some error.TooLong else None
+fault_of_length u.Ui n = if nat_lt MAX_MESSAGE n then Some error.TooLong else None
+fault_of_length u.Xid n = if nat_lt MAX_MESSAGE n then Some error.TooLong else None
 fault_of_length u.Frmr n = if n == 5 then None else Some error.WrongSize
 fault_of_length _ n = if n == 0 then None else Some error.UnexpectedInformation
 
@@ -123,7 +124,7 @@ read_kind (Some kind) command poll n = if may_be kind command then judged (fault
 abbrev pub read_information : Bool → Bool → ℕ → ℕ → List ℕ → Result Frame Refusal
 read_information command poll ns nr info =
     if not command then Err (Faulty error.UnknownControl)
-    else if nat_lt 260 (length info) then Err (Faulty error.TooLong)
+    else if nat_lt MAX_MESSAGE (length info) then Err (Faulty error.TooLong)
     else Ok (Information poll ns nr (record { items = info }))
 
 abbrev pub read_supervisory : Option Supervisory → Bool → Bool → ℕ → ℕ → Result Frame Refusal

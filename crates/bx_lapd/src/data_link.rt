@@ -56,17 +56,6 @@ fn drop_first(queue: &mut ArrayVec<Octets, 32>, count: u8)
     }
 }
 
-/// A message again.
-pub(crate) fn copied(message: &Octets) -> Octets
-    ensures { result ≡ message.now }
-{
-    let mut copy = Octets::new();
-    match copy.try_extend_from_slice(message.as_slice()) {
-        Ok(()) => copy,
-        Err(_) => unreachable!(),
-    }
-}
-
 impl DataLink {
     ghost use Rattle.bx_lapd.specs.Links.{outstanding, is_valid, establishing, begun_link, assigned, discarded, acknowledged};
     ghost use Rattle.bx_lapd.specs.Bounds.{IsLink};

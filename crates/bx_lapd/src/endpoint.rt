@@ -1,6 +1,7 @@
 //! An end of a D channel: a link with the octets of its frames.
 
 ghost use Rattle.std.specs.Prelude.{◌≡◌, ◌+◌, ◌<◌, ◌≤◌, ◌^◌, [], min, length};
+ghost use Rattle.bx_q931.specs.declared.reading.TheConstants.{MAX_MESSAGE};
 ghost use Rattle.bx_lapd.specs.Links.{Makes, is_link_up};
 ghost use Rattle.bx_lapd.specs.Table.{establish, release, takes_data, give, elapse, due_of};
 ghost use Rattle.bx_lapd.specs.Codec.{read_octets};
@@ -103,7 +104,7 @@ impl Endpoint {
     /// DL-DATA request.
     pub fn give(&mut self, message: Octets, now: u64) -> Done
         requires now { now < 2 ^ 62 }
-        requires size { length message.items ≤ 260 }
+        requires size { length message.items ≤ MAX_MESSAGE }
         ensures step { Makes (give self.old.link message now) self.new.link result }
         ensures stays { (self.new.network ≡ self.old.network) × (self.new.dropped ≡ self.old.dropped) }
     {

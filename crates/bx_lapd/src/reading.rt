@@ -9,6 +9,7 @@ use crate::frame::Frame;
 use crate::refusal::{Invalid, Refusal};
 use crate::words::{ErrorCode, Supervisory, Unnumbered};
 use arrayvec::ArrayVec;
+use bx_q931::MAX_MESSAGE;
 
 fn supervisory(octet: u8) -> Option<Supervisory>
     ensures { result ≡ supervisory_of octet }
@@ -52,7 +53,7 @@ fn length_fault(kind: Unnumbered, length: usize) -> Option<ErrorCode>
     ensures { result ≡ fault_of_length kind length }
 {
     match kind {
-        Unnumbered::Ui | Unnumbered::Xid if length > 260 => Some(ErrorCode::TooLong),
+        Unnumbered::Ui | Unnumbered::Xid if length > MAX_MESSAGE => Some(ErrorCode::TooLong),
         Unnumbered::Ui | Unnumbered::Xid => None,
         Unnumbered::Frmr if length == 5 => None,
         Unnumbered::Frmr => Some(ErrorCode::WrongSize),
@@ -92,7 +93,7 @@ fn read_message(
     if !command {
         return Err(Refusal::Faulty(ErrorCode::UnknownControl));
     }
-    if info.len() > 260 {
+    if info.len() > MAX_MESSAGE {
         return Err(Refusal::Faulty(ErrorCode::TooLong));
     }
     match ArrayVec::try_from(info) {

@@ -3,11 +3,11 @@
 ghost use Rattle.std.specs.Prelude.{◌≡◌, ◌+◌, ◌<◌, ◌≤◌, ◌^◌, ◌++◌, length, take, drop};
 ghost use Rattle.bx_lapd.specs.Links.{numbered_frames, running, sendable, flush};
 
-use crate::data_link::{DataLink, T200, copied};
+use crate::data_link::{DataLink, T200};
 use crate::done::Done;
 use crate::frame::Frame;
 use crate::words::{Supervisory, Timer};
-use bx_q931::Octets;
+use bx_q931::{Octets, copied};
 
 /// The messages as I frames with the numbers from this on.
 fn send_numbered(messages: &[Octets], sent: u8, received: u8, out: &mut Done)

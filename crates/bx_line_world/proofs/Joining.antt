@@ -1,5 +1,5 @@
 -- The acts of a day joined into one list of events of its link.
-use Rattle.std.proofs.Common.{◌≡◌, inl, inr, ℕ, zero, suc, Bool, true, false, List, [], ◌∷◌, ◌++◌, refl, sym, ap, ◌∙◌, subst, Option, Some, None, Result, Ok, Err}
+use Rattle.std.proofs.Common.{◌≡◌, inl, inr, ℕ, zero, suc, Bool, true, false, ◌&&◌, List, [], ◌∷◌, ◌++◌, refl, sym, ap, ◌∙◌, subst, Option, Some, None, Result, Ok, Err}
 use Rattle.std.proofs.lemmas.List.{append-nil, append_assoc}
 use Rattle.arrayvec.specs.ArrayVec.{ArrayVec}
 use Rattle.bx_frames.specs.declared.fault.LinkFault.{LinkFault}
@@ -18,7 +18,7 @@ use Rattle.bx_live.specs.declared.world.Loss.TheVariants as losses
 use Rattle.bx_live.specs.Chains.{Chain, chain_first}
 use Rattle.bx_live.specs.Schedules.{instant_of_second}
 use Rattle.bx_line_world.specs.Wires.{WireAct}
-use Rattle.bx_line_world.specs.Posts.{with_messages, reset, put, told_to, all_told_to, begun_by, dropped_by}
+use Rattle.bx_line_world.specs.Posts.{with_messages, is_anew, reset, put, told_to, all_told_to, begun_by, dropped_by}
 use Rattle.bx_line_world.specs.Lines.{LineEvent, Asked, Given, Elapsed, Quiet, Serves, wire_acts_of, step_of, passed_after, shown_by}
 use Rattle.bx_line_world.specs.Serving.{IsWait, Slice, Served, Polls, AsksLink, GivesMessage, is_idle}
 use Rattle.bx_line_world.specs.Days.{GoesByLine, IsTextOfMessages, ReadsTurn, ReadsFor, TakesMessage}
@@ -66,9 +66,9 @@ part_more (x ∷ xs) ys = inl (refl, part_more xs ys)
 
 -- ---- what waits after what was told
 
-reset_part : (b : Bool) (p : Post) (ys : List (ArrayVec ℕ)) → IsPartOf (reset b p).messages.items ys
-reset_part true p ys = tt
-reset_part false p ys = tt
+reset_part : (b : Bool) (p : Post) (ys : List (ArrayVec ℕ)) → IsPartOf (reset b p).messages.items (p.messages.items ++ ys)
+reset_part true p ys = part_more p.messages.items ys
+reset_part false p ys = part_more p.messages.items ys
 
 put_part : (b : Bool) (p : Post) (m : ArrayVec ℕ) → IsPartOf (put b p m).messages.items (p.messages.items ++ m ∷ [])
 put_part true p m = part_refl (p.messages.items ++ m ∷ [])
@@ -76,7 +76,7 @@ put_part false p m = part_more p.messages.items (m ∷ [])
 
 told_one : (p : Post) (told : Indication) → IsPartOf (told_to p told).messages.items (p.messages.items ++ messages_of (told ∷ []))
 told_one p (Delivered m) = put_part _ p m
-told_one p (LinkError code) = part_more p.messages.items []
+told_one p (LinkError code) = reset_part (is_anew code && p.here) p []
 told_one p told = reset_part p.here p _
 
 messages_more : (told : Indication) (more : List Indication) → messages_of (told ∷ more) ≡ messages_of (told ∷ []) ++ messages_of more

@@ -1,5 +1,6 @@
 pub mod Stepping
 pub mod Never
+pub mod Apart
 pub mod Seconds
 pub mod Joining
 pub mod NearEnd

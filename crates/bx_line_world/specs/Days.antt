@@ -13,6 +13,7 @@ use Rattle.bx_live.specs.Acts.{Act, Began, Dropped, Logged, Synced, Wrote, Read,
 use Rattle.bx_live.specs.Chains.{Chain}
 use Rattle.bx_live.specs.Logs.{OnLog}
 use Rattle.bx_live.specs.Schedules.{instant_of_second}
+use Rattle.bx_live.specs.declared.schedule.TheConstants.{SECOND}
 use Rattle.bx_line_world.specs.Wires.{WireAct}
 use Rattle.bx_line_world.specs.Posts.{with_messages, begun_by, dropped_by, is_lost, IsNoneWithin}
 use Rattle.bx_line_world.specs.Serving.{Served, Polled, AsksLink, GivesMessage, is_idle}
@@ -26,9 +27,9 @@ is_here s = is_link_up s.end.link.state && not (is_lost s.post.lost)
 -- How a second begins whose instant was waited for. Late is more than a second after the instant, by the last reading of the clock.
 -- It is never said that none begins any more
 abbrev pub IsSecondBegun : {W : Type 0} → Begin → ℕ → Line W → Type 0
-IsSecondBegun Late instant s = instant + 1_000_000_000 < s.shown
-IsSecondBegun Alone instant s = (s.shown ≤ instant + 1_000_000_000) × (is_here s ≡ false)
-IsSecondBegun Joined instant s = (s.shown ≤ instant + 1_000_000_000) × (is_here s ≡ true)
+IsSecondBegun Late instant s = instant + SECOND < s.shown
+IsSecondBegun Alone instant s = (s.shown ≤ instant + SECOND) × (is_here s ≡ false)
+IsSecondBegun Joined instant s = (s.shown ≤ instant + SECOND) × (is_here s ≡ true)
 IsSecondBegun Ended instant s = ⊥
 
 -- the instant of a second is waited for: first a link is asked for, where there is none; then it is served

@@ -3,6 +3,7 @@ use Rattle.std.specs.Prelude.{◌≡◌, ℕ, ◌≤◌, Bool, true, false, List
 use Rattle.bx_day.specs.Day.{Day}
 use Rattle.bx_day.specs.Outages.{live_day_after}
 use Rattle.bx_live.specs.declared.world.Begin.{Begin}
+use Rattle.bx_live.specs.declared.world.Begin.TheVariants.{Joined}
 use Rattle.bx_live.specs.declared.world.CannotLog.{CannotLog}
 use Rattle.bx_live.specs.Acts.{Act, Began, logged_by, ended, begins_none}
 use Rattle.bx_live.specs.Held.{AreHeld}
@@ -12,6 +13,7 @@ use Rattle.bx_live.specs.Chains.{Chain}
 use Rattle.bx_live.specs.Logs.{OnDisk}
 use Rattle.bx_line_world.specs.Wires.{WireAct}
 use Rattle.bx_line_world.specs.Days.{GoesByLine, octets_read}
+use Rattle.bx_line_world.specs.Posts.{is_lost}
 use Rattle.bx_line_world.specs.Joined.{GoesOverLink}
 use Rattle.bx_line_world.specs.declared.line_world.LineWorld.{LineWorld}
 
@@ -19,6 +21,16 @@ use Rattle.bx_line_world.specs.declared.line_world.LineWorld.{LineWorld}
 abbrev pub NeverEnds : {W D : Type 0} → (did : W → List WireAct → W → Type 0) (holds may_leave : D → List ℕ → Type 0) (moment : D → ℕ) (left_since : D → ℕ → List ℕ → Type 0) (has_failed : D → Bool) → Type 0
 NeverEnds {W} {D} did holds may_leave moment left_since has_failed =
     (old new : LineWorld W D) (acts : List Act) → Chain (GoesByLine did holds may_leave moment left_since has_failed) old acts new → ended acts ≡ false
+
+-- the first of these acts is not that a second begins with a link
+abbrev pub BeginsApart : List Act → Type 0
+BeginsApart (Began second Joined ∷ acts) = ⊥
+BeginsApart acts = Unit {0}
+
+-- where something was lost that the day has not heard of, no second begins with a link before one has begun without
+abbrev pub StartsApart : {W D : Type 0} → (did : W → List WireAct → W → Type 0) (holds may_leave : D → List ℕ → Type 0) (moment : D → ℕ) (left_since : D → ℕ → List ℕ → Type 0) (has_failed : D → Bool) → Type 0
+StartsApart {W} {D} did holds may_leave moment left_since has_failed =
+    (old new : LineWorld W D) (acts : List Act) → Chain (GoesByLine did holds may_leave moment left_since has_failed) old acts new → is_lost old.line.post.lost ≡ true → BeginsApart acts
 
 -- the octets of messages that are read in one second
 abbrev pub ReadsSoMuch : {W D : Type 0} → (did : W → List WireAct → W → Type 0) (holds may_leave : D → List ℕ → Type 0) (moment : D → ℕ) (left_since : D → ℕ → List ℕ → Type 0) (has_failed : D → Bool) → Type 0

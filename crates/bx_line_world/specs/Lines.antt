@@ -10,6 +10,7 @@ use Rattle.bx_line_world.specs.Wires.{WireAct, Shown, Sent, Waited}
 use Rattle.bx_line_world.specs.Posts.{all_told_to, is_full}
 use Rattle.bx_line_world.specs.declared.post.Post.{Post}
 use Rattle.bx_line_world.specs.declared.line.Line.{Line}
+use Rattle.bx_live.specs.declared.schedule.TheConstants.{SECOND}
 
 -- what happens at a data link, and what the clock showed then
 pub data LineEvent : Type 0 where
@@ -41,12 +42,12 @@ time_at s shown = instant_in (passed_by s.passed s.shown shown)
 
 -- what is left until the timer is due, or a second
 abbrev pub left_until : Option ℕ → ℕ → ℕ
-left_until None passed = 1_000_000_000
+left_until None passed = SECOND
 left_until (Some due) passed = due * 1_000_000 - passed
 
 -- how long a frame is waited for: until the next of an instant and the timer, but at least 50 microseconds, and at most a second
 abbrev pub slice_of : {W : Type 0} → Line W → ℕ → ℕ
-slice_of s until = max 50_000 (min (until - s.shown) (min (left_until (due_of s.end.link.timer) s.passed) 1_000_000_000))
+slice_of s until = max 50_000 (min (until - s.shown) (min (left_until (due_of s.end.link.timer) s.passed) SECOND))
 
 -- ---- what an event does
 
@@ -96,7 +97,7 @@ abbrev pub is_information : List ℕ → Bool
 is_information (first ∷ second ∷ control ∷ rest) = control % 2 == 0
 is_information octets = false
 
--- An I frame that comes while 64 messages wait is passed over, as if it was lost on the way: it is not acknowledged, and the other
+-- An I frame that comes while `MAX_MESSAGES` wait is passed over, as if it was lost on the way: it is not acknowledged, and the other
 -- end's link sends it again.
 abbrev pub is_passed : Post → List ℕ → Bool
 is_passed p octets = is_full p && is_information octets

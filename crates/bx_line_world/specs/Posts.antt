@@ -1,10 +1,13 @@
 -- What a link has told, and the day has not heard.
-use Rattle.std.specs.Prelude.{◌≡◌, ◌⊎◌, ◌<◌, ℕ, nat_lt, nat_le, Bool, true, false, List, [], ◌∷◌, ◌++◌, length, Option, Some, None}
+use Rattle.std.specs.Prelude.{◌≡◌, ◌⊎◌, ◌<◌, ℕ, zero, nat_lt, nat_le, Bool, true, false, List, [], ◌∷◌, ◌++◌, ◌&&◌, length, Option, Some, None}
 use Rattle.arrayvec.specs.ArrayVec.{ArrayVec}
 use Rattle.bx_frames.specs.declared.fault.LinkFault.{LinkFault}
 use Rattle.bx_frames.specs.declared.fault.LinkFault.TheVariants.{LinkReset, MoreThan64Messages}
+use Rattle.bx_frames.specs.declared.turn.TheConstants.{MAX_MESSAGES}
 use Rattle.bx_lapd.specs.declared.indication.Indication.{Indication}
 use Rattle.bx_lapd.specs.declared.indication.Indication.TheVariants.{LinkEstablished, LinkReleased, Delivered, LinkError}
+use Rattle.bx_lapd.specs.declared.words.ErrorCode.{ErrorCode}
+use Rattle.bx_lapd.specs.declared.words.ErrorCode.TheVariants.{PeerEstablishes}
 use Rattle.bx_live.specs.declared.world.Begin.{Begin}
 use Rattle.bx_live.specs.declared.world.Begin.TheVariants.{Late, Alone, Joined, Ended}
 use Rattle.bx_live.specs.declared.world.Loss.{Loss}
@@ -15,13 +18,23 @@ use Rattle.bx_line_world.specs.declared.post.Post.{Post}
 abbrev pub no_post : Post
 no_post = record { messages = record { items = [] }; lost = None; here = false }
 
+-- what a day finds that goes on from a moment: behind a start what was said last may be lost, which the day is told
+abbrev pub post_from : ℕ → Post
+post_from zero = no_post
+post_from moment = record no_post { lost = Some LinkReset }
+
 abbrev pub with_messages : Post → List (ArrayVec ℕ) → Post
 with_messages p ms = record p { messages = record { items = ms } }
 
--- what was under way is lost: the day is told, where it has this link
+-- what was under way may be lost: the day is told, where it has this link. What was delivered before was acknowledged, and stays
 abbrev pub reset : Bool → Post → Post
-reset true p = record (with_messages p []) { lost = Some LinkReset }
-reset false p = with_messages p []
+reset true p = record p { lost = Some LinkReset }
+reset false p = p
+
+-- the other end has established the link anew: it may know nothing of what was said over it before (ITU-T Q.921, 5.7)
+abbrev pub is_anew : ErrorCode → Bool
+is_anew PeerEstablishes = true
+is_anew code = false
 
 -- a message that there is no room for is lost
 abbrev pub put : Bool → Post → ArrayVec ℕ → Post
@@ -30,10 +43,10 @@ put false p m = record p { lost = Some MoreThan64Messages }
 
 -- the link has told this
 abbrev pub told_to : Post → Indication → Post
-told_to p (Delivered m) = put (nat_lt (length p.messages.items) 64) p m
+told_to p (Delivered m) = put (nat_lt (length p.messages.items) MAX_MESSAGES) p m
 told_to p LinkEstablished = reset p.here p
 told_to p LinkReleased = reset p.here p
-told_to p (LinkError code) = p
+told_to p (LinkError code) = reset (is_anew code && p.here) p
 
 abbrev pub all_told_to : Post → List Indication → Post
 all_told_to p [] = p
@@ -61,7 +74,7 @@ is_lost (Some fault) = true
 
 -- no message more has room
 abbrev pub is_full : Post → Bool
-is_full p = nat_le 64 (length p.messages.items)
+is_full p = nat_le MAX_MESSAGES (length p.messages.items)
 
 abbrev pub is_any : List (ArrayVec ℕ) → Bool
 is_any [] = false

@@ -1,7 +1,7 @@
 //! A data link over its wire.
 
 ghost use Rattle.std.specs.Prelude.{◌≡◌, ◌∷◌, [], ℕ, ◌<◌, ◌^◌, is_ok};
-ghost use Rattle.bx_line_world.specs.Posts.{no_post};
+ghost use Rattle.bx_line_world.specs.Posts.{no_post, post_from};
 ghost use Rattle.bx_line_world.specs.Lines.{Elapsed, Serves, instant_in, slice_of, sent_as, is_information, is_passed};
 ghost use Rattle.bx_line_world.specs.Serving.{AsksLink, is_idle, is_wait_over};
 ghost use Rattle.bx_line_world.specs.Steps.{Looks, with_wire, SendsFrames, keeps, CarriesOut, GivesWhere, Waits};
@@ -10,12 +10,11 @@ use crate::post::Post;
 use crate::wire::Wire;
 use bx_devices::WriteFailed;
 use bx_lapd::{Done, Endpoint, Frame, Indication, write_frame};
+use bx_live::SECOND;
 use bx_q931::Octets;
 
-/// Milliseconds and seconds in nanoseconds, and the least slice of a wait.
+/// A millisecond and the least slice of a wait, in nanoseconds.
 const MILLISECOND: u128 = 1_000_000;
-
-const SECOND: u128 = 1_000_000_000;
 
 const SHORTEST: u128 = 50_000;
 
@@ -49,6 +48,16 @@ impl<W> Line<W> {
             passed: 0,
             post: Post::new(),
         }
+    }
+
+    /// The same, for a day that goes on from this moment. Where that is not its first one, the day was started again, and what was said last
+    /// may be lost: its first second that is not late goes by without a link (`of_line`, clause `apart`), so that the day asks for each call.
+    pub fn going_on(self, moment: u32) -> Line<W>
+        ensures { result ≡ record self { post = post_from moment } }
+    {
+        let mut line = self;
+        line.post = Post::from_moment(moment);
+        line
     }
 
     /// The instant of the link.

@@ -4,14 +4,13 @@ ghost use Rattle.std.specs.Prelude.{◌≡◌, is_ok, Ok};
 ghost use Rattle.bx_line_world.specs.Days.{IsSecondBegun, Begins, GivesAll, TakesMessage, ReadsTurn, octets_of_message};
 
 use crate::line::Line;
-use crate::post::copied;
 use crate::wire::Wire;
 use bx_devices::WriteFailed;
 use bx_events::LiveEvent;
 use bx_frames::{Frame, LinkFault};
 use bx_journal::Disk;
 use bx_live::{Begin, CannotLog, Log, Loss, SECOND, Schedule, World};
-use bx_q931::Octets;
+use bx_q931::{Octets, copied};
 
 /// A world with a data link over a wire, whose seconds begin by the clock beside it, and a journal.
 #[derive(Drop)]

@@ -2,33 +2,26 @@
 
 ghost use Rattle.std.specs.Prelude.{◌≡◌};
 ghost use Rattle.bx_lapd.specs.declared.indication.Indication.TheVariants.{Delivered};
-ghost use Rattle.bx_line_world.specs.Posts.{no_post, is_full, told_to, reset, begun_by, dropped_by};
+ghost use Rattle.bx_line_world.specs.Posts.{no_post, post_from, is_full, told_to, reset, begun_by, dropped_by};
 ghost use Rattle.bx_line_world.specs.Serving.{has_news};
 ghost use Rattle.bx_line_world.specs.Steps.{TakesFirst};
 
 use arrayvec::ArrayVec;
-use bx_frames::LinkFault;
-use bx_lapd::Indication;
+use bx_frames::{LinkFault, MAX_MESSAGES};
+use bx_lapd::{ErrorCode, Indication};
 use bx_live::{Begin, Loss};
-use bx_q931::Octets;
+use bx_q931::{Octets, copied};
 
-/// The messages that were delivered and not read, at most 64; whether some may be lost, and why; and whether the day has this link.
+/// The most messages that wait: those of a turn.
+const MAX_WAITING: usize = MAX_MESSAGES as usize;
+
+/// The messages that were delivered and not read, at most `MAX_MESSAGES`; whether some may be lost, and why; and whether the day has
+/// this link.
 #[derive(Drop)]
 pub struct Post {
-    pub messages: ArrayVec<Octets, 64>,
+    pub messages: ArrayVec<Octets, MAX_WAITING>,
     pub lost: Option<LinkFault>,
     pub here: bool,
-}
-
-/// A message again.
-pub(crate) fn copied(message: &Octets) -> Octets
-    ensures { result ≡ message.now }
-{
-    let mut copy = Octets::new();
-    match copy.try_extend_from_slice(message.as_slice()) {
-        Ok(()) => copy,
-        Err(_) => unreachable!(),
-    }
 }
 
 impl Post {
@@ -43,11 +36,21 @@ impl Post {
         }
     }
 
-    /// What was under way is lost.
+    /// What a day finds that goes on from a moment: behind a start what was said last may be lost.
+    pub(crate) fn from_moment(moment: u32) -> Post
+        ensures { result ≡ post_from moment }
+    {
+        let mut post = Post::new();
+        if moment > 0 {
+            post.lost = Some(LinkFault::LinkReset);
+        }
+        post
+    }
+
+    /// What was under way may be lost. What was delivered before was acknowledged, and stays.
     fn reset(&mut self)
         ensures { self.new ≡ reset self.old.here self.old }
     {
-        self.messages.clear();
         if self.here {
             self.lost = Some(LinkFault::LinkReset);
         }
@@ -57,14 +60,15 @@ impl Post {
     fn put(&mut self, message: Octets)
         ensures { self.new ≡ told_to self.old (Delivered message) }
     {
-        if self.messages.len() < 64 {
+        if self.messages.len() < MAX_WAITING {
             self.messages.push(message);
         } else {
             self.lost = Some(LinkFault::MoreThan64Messages);
         }
     }
 
-    /// The link has told this.
+    /// The link has told this. Where the other end has established it anew, the day is told as of a reset, also where nothing of ours was on
+    /// its way: that end may have been started again, and know of no call.
     pub(crate) fn hear(&mut self, told: &Indication)
         ensures { self.new ≡ told_to self.old told.now }
     {
@@ -72,6 +76,7 @@ impl Post {
             Indication::Delivered(message) => self.put(copied(message)),
             Indication::LinkEstablished => self.reset(),
             Indication::LinkReleased => self.reset(),
+            Indication::LinkError(ErrorCode::PeerEstablishes) => self.reset(),
             Indication::LinkError(_) => {}
         }
     }
@@ -131,6 +136,6 @@ impl Post {
     pub(crate) fn is_full(&self) -> bool
         ensures { result ≡ is_full self.now }
     {
-        self.messages.len() >= 64
+        self.messages.len() >= MAX_WAITING
     }
 }

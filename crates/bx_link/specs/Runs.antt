@@ -5,6 +5,7 @@ use Rattle.bx_frames.specs.declared.fault.LinkFault.{LinkFault}
 use Rattle.bx_frames.specs.declared.fault.LinkFault.TheVariants.{WriteFailed, WrongMoment, UnknownKind}
 use Rattle.bx_frames.specs.declared.frame.Frame.{Frame}
 use Rattle.bx_frames.specs.declared.frame.Frame.TheVariants as frames
+use Rattle.bx_frames.specs.declared.turn.TheConstants.{MAX_MESSAGES}
 use Rattle.bx_far.specs.FarDay.{FarDay, far_without_link}
 use Rattle.bx_far.specs.Course.{far_next, far_text}
 use Rattle.bx_live.specs.declared.world.Begin.{Begin}
@@ -52,12 +53,12 @@ abbrev pub far_owing : FarDay → ℕ → List ℕ → FarPlace
 far_owing d room [] = Hearing d room
 far_owing d room (octet ∷ text) = Owing d room (octet ∷ text)
 
--- In each second that begins with a link the far end ticks: it is a turn of at most 64 messages. One without a link goes by as one, and so
--- does one that has begun late, for which the link is dropped. Where no second begins any more, the day is over
+-- In each second that begins with a link the far end ticks: it is a turn of at most `MAX_MESSAGES`. One without a link goes by as one, and
+-- so does one that has begun late, for which the link is dropped. Where no second begins any more, the day is over
 abbrev pub far_run_begun : FarDay → Begin → FarPlace
 far_run_begun d begins.Late = Losing (far_without_link d) losses.Late
 far_run_begun d begins.Alone = Between (far_without_link d)
-far_run_begun d begins.Joined = Owing (far_next d Tick) 64 (far_text d Tick)
+far_run_begun d begins.Joined = Owing (far_next d Tick) MAX_MESSAGES (far_text d Tick)
 far_run_begun d begins.Ended = Ending d
 
 -- the exchange's turn ends with its end of turn, which has the moment

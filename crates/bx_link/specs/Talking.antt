@@ -8,6 +8,7 @@ use Rattle.bx_far.specs.Course.{far_next, far_due}
 use Rattle.bx_frames.specs.declared.fault.LinkFault.{LinkFault}
 use Rattle.bx_frames.specs.declared.fault.LinkFault.TheVariants.{Closed}
 use Rattle.bx_frames.specs.declared.frame.Receiver.TheVariants.{FarEnd}
+use Rattle.bx_frames.specs.declared.turn.TheConstants.{MAX_MESSAGES}
 
 -- ---- one after another
 
@@ -24,7 +25,7 @@ follow_talk first next over = follow_by first.ending first next over
 
 -- what it hears, and a tick after the end of turn
 abbrev pub far_hears : FarDay → List ℕ → Talk
-far_hears d text = turn_in FarEnd (far_due d) 64 text
+far_hears d text = turn_in FarEnd (far_due d) MAX_MESSAGES text
 
 abbrev pub ticked_talk : List ℕ → Talk
 ticked_talk text = record { events = Tick ∷ []; ending = Ok true; rest = text; following = text }

@@ -12,7 +12,7 @@ use bx_live::World;
 
 /// Hears the messages of a turn up to its end, and answers each before more is read.
 pub(crate) fn hear_turn<W: World>(far: &mut Far, world: &mut W) -> Result<(), LinkFault>
-    ensures ran { FarRuns W.did world.old world.new (Hearing far.old 64) (or_losing (Between far.new) far.new result) }
+    ensures ran { FarRuns W.did world.old world.new (Hearing far.old MAX_MESSAGES) (or_losing (Between far.new) far.new result) }
     ensures moment { far.new.moment ≡ far.old.moment }
 {
     let moment = far.moment();

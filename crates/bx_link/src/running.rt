@@ -2,6 +2,7 @@
 
 ghost use Rattle.std.specs.Prelude.{◌≤◌, min, max};
 ghost use Rattle.bx_events.specs.Events.{Tick};
+ghost use Rattle.bx_frames.specs.declared.turn.TheConstants.{MAX_MESSAGES};
 ghost use Rattle.bx_far.specs.Course.{far_next, far_text};
 ghost use Rattle.bx_link.specs.Runs.{Between, Owing};
 ghost use Rattle.bx_link.specs.Running.{FarRuns};
@@ -18,7 +19,8 @@ use bx_live::{Begin, Loss, Second, World};
 
 /// Both halves of a turn.
 fn run_turn<W: World>(far: &mut Far, world: &mut W) -> Result<(), LinkFault>
-    ensures ran { FarRuns W.did world.old world.new (Owing (far_next far.old Tick) 64 (far_text far.old Tick)) (or_losing (Between far.new) far.new result) }
+    ensures ran { FarRuns W.did world.old world.new (Owing (far_next far.old Tick) MAX_MESSAGES (far_text far.old Tick))
+        (or_losing (Between far.new) far.new result) }
     ensures moment { Rises far.old far.new }
 {
     open_turn(far, world)?;
@@ -27,7 +29,7 @@ fn run_turn<W: World>(far: &mut Far, world: &mut W) -> Result<(), LinkFault>
 
 /// The next second with a link. A fault drops it.
 fn pass_with_link<W: World>(far: &mut Far, world: &mut W)
-    ensures ran { FarRuns W.did world.old world.new (Owing (far_next far.old Tick) 64 (far_text far.old Tick)) (Between far.new) }
+    ensures ran { FarRuns W.did world.old world.new (Owing (far_next far.old Tick) MAX_MESSAGES (far_text far.old Tick)) (Between far.new) }
     ensures moment { Rises far.old far.new }
 {
     match run_turn(far, world) {

@@ -2,6 +2,7 @@
 
 ghost use Rattle.std.specs.Prelude.{◌≡◌};
 ghost use Rattle.bx_events.specs.Events.{Tick, Receive};
+ghost use Rattle.bx_frames.specs.declared.turn.TheConstants.{MAX_MESSAGES};
 ghost use Rattle.bx_far.specs.Course.{far_next, far_text};
 ghost use Rattle.bx_link.specs.Runs.{Owing, Hearing};
 ghost use Rattle.bx_link.specs.Running.{FarRuns};
@@ -14,7 +15,8 @@ use bx_q931::Octets;
 
 /// The next second, and what is sent in it.
 pub(crate) fn open_turn<W: World>(far: &mut Far, world: &mut W) -> Result<(), LinkFault>
-    ensures ran { FarRuns W.did world.old world.new (Owing (far_next far.old Tick) 64 (far_text far.old Tick)) (or_losing (Hearing far.new 64) far.new result) }
+    ensures ran { FarRuns W.did world.old world.new (Owing (far_next far.old Tick) MAX_MESSAGES (far_text far.old Tick))
+        (or_losing (Hearing far.new MAX_MESSAGES) far.new result) }
     ensures day { far.new ≡ far_next far.old Tick }
 {
     let sent = End::<Far>::next_second(far);

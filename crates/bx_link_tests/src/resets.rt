@@ -1,4 +1,4 @@
-//! What a day is told where the far end asks for the link anew, or releases it, in the third second.
+//! What a day is told where the far end asks for the link anew, or releases it, in the third second, and where the day was started again.
 
 use crate::wire::{Manner, MemoryWire};
 use bx_frames::{Frame, LinkFault};
@@ -13,8 +13,8 @@ use std::alloc::Global;
 type Told = (Begin, Option<LinkFault>);
 
 /// A wire by its name: the second in which the far end asks anew, that in which it releases the link, whether a message is on its way
-/// each time, and what the first four seconds are told.
-type Reset = (&'static str, u64, u64, bool, [Told; 4]);
+/// each time, the moment from which the day goes on, and what the first four seconds are told.
+type Reset = (&'static str, u64, u64, bool, u32, [Told; 4]);
 
 const WHOLE: Told = (Begin::Joined, None);
 
@@ -23,23 +23,34 @@ const LOST: Told = (Begin::Joined, Some(LinkFault::LinkReset));
 /// The second after a loss goes by without a link, so that the day asks.
 const AWAY: Told = (Begin::Alone, None);
 
-static RESETS: [Reset; 4] = [
-    ("neither", 0, 0, true, [WHOLE, WHOLE, WHOLE, WHOLE]),
+static RESETS: [Reset; 6] = [
+    ("neither", 0, 0, true, 0, [WHOLE, WHOLE, WHOLE, WHOLE]),
     (
-        "anew, and nothing is lost",
+        "anew, and nothing is on its way",
         3,
         0,
         false,
-        [WHOLE, WHOLE, WHOLE, WHOLE],
+        0,
+        [WHOLE, WHOLE, LOST, AWAY],
     ),
     (
-        "anew, and a message may be",
+        "anew, and a message is",
         3,
         0,
         true,
+        0,
         [WHOLE, WHOLE, LOST, AWAY],
     ),
-    ("released", 0, 3, false, [WHOLE, WHOLE, LOST, AWAY]),
+    ("released", 0, 3, false, 0, [WHOLE, WHOLE, LOST, AWAY]),
+    ("started again", 0, 0, true, 5, [AWAY, WHOLE, WHOLE, WHOLE]),
+    (
+        "started again, and anew",
+        3,
+        0,
+        false,
+        1,
+        [AWAY, WHOLE, LOST, AWAY],
+    ),
 ];
 
 type OnWire = LineWorld<MemoryWire, MemoryDisk>;
@@ -77,7 +88,7 @@ fn told(alloc: Global, reset: &Reset) -> Option<[Told; 4]> {
         jump: None,
     };
     let wire = MemoryWire::new(alloc, far_end(alloc)?, manner);
-    let line = Line::new(true, wire);
+    let line = Line::new(true, wire).going_on(reset.4);
     let mut world = LineWorld::new(Schedule::new(0, 1), line, Log { disk: None });
     Some([
         second(&mut world, 1, reset.3)?,
@@ -90,6 +101,6 @@ fn told(alloc: Global, reset: &Reset) -> Option<[Told; 4]> {
 #[test]
 fn resets_are_told(rt: HostRuntime) {
     for reset in &RESETS {
-        assert!(rt; told(rt.alloc(), reset) == Some(reset.4), "{}", reset.0);
+        assert!(rt; told(rt.alloc(), reset) == Some(reset.5), "{}", reset.0);
     }
 }

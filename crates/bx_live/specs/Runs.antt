@@ -6,6 +6,7 @@ use Rattle.bx_frames.specs.declared.fault.LinkFault.{LinkFault}
 use Rattle.bx_frames.specs.declared.fault.LinkFault.TheVariants.{WriteFailed, WrongMoment, UnknownKind}
 use Rattle.bx_frames.specs.declared.frame.Frame.{Frame}
 use Rattle.bx_frames.specs.declared.frame.Frame.TheVariants as frames
+use Rattle.bx_frames.specs.declared.turn.TheConstants.{MAX_MESSAGES}
 use Rattle.bx_day.specs.Day.{Day}
 use Rattle.bx_day.specs.Course.{exchange_next, exchange_sent, exchange_text}
 use Rattle.bx_day.specs.Outages.{without_link}
@@ -106,12 +107,12 @@ abbrev pub writing : Day → ℕ → List (List ℕ) → Place
 writing d room [] = Hearing d room
 writing d room (text ∷ texts) = Owing d room false (text ∷ texts)
 
--- a second with a peer is a turn of at most 64 messages; any other is one without a link, in which there is no peer. Where no second
+-- a second with a peer is a turn of at most `MAX_MESSAGES`; any other is one without a link, in which there is no peer. Where no second
 -- begins any more, the day is closed
 abbrev pub begun : Day → Begin → Place
 begun d begins.Late = Losing d losses.Late
 begun d begins.Alone = Logging d 0 WithoutLink
-begun d begins.Joined = Logging d 64 (OnLink Tick)
+begun d begins.Joined = Logging d MAX_MESSAGES (OnLink Tick)
 begun d begins.Ended = Closing d
 
 -- the peer's turn ends with its end of turn, which has the moment

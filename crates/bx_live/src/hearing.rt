@@ -13,7 +13,7 @@ use bx_frames::{Frame, LinkFault, MAX_MESSAGES};
 
 /// Hears the messages of a turn up to its end. What is replied to those that came together is written before more is waited for.
 pub(crate) fn hear_turn<W: World>(exchange: &mut Exchange, world: &mut W) -> Result<(), Stop>
-    ensures ran { RunsInside W.did world.old world.new (Hearing exchange.old 64) (or_stopped (Between exchange.new) exchange.new result) }
+    ensures ran { RunsInside W.did world.old world.new (Hearing exchange.old MAX_MESSAGES) (or_stopped (Between exchange.new) exchange.new result) }
     ensures moment { exchange.new.moment ≡ exchange.old.moment }
 {
     let mut room = MAX_MESSAGES;

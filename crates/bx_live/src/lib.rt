@@ -1,4 +1,4 @@
-//! The run of a live day: by the clock, towards peers that come and go, and with each event logged before it happens.
+//! The run of a live day: by the clock, over a link that comes and goes, and with each event logged before it happens.
 #![tactic(auto)]
 
 mod hearing;

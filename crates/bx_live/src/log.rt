@@ -9,6 +9,7 @@ ghost use Rattle.bx_live.specs.Logs.{WritesEvent, Commits, OnLog, WritesKept};
 use crate::world::CannotLog;
 use bx_events::{Event, LiveEvent};
 use bx_journal::{Disk, are_printable, commit, write_event};
+use bx_q931::MAX_MESSAGE;
 
 /// The journal of a day, on its disk, where one is kept.
 #[derive(Drop)]
@@ -22,7 +23,7 @@ fn is_message(event: LiveEvent<'_>) -> bool
     ensures refused { result ≡ false → IsLoggable (live_event_of event.entry) → ⊥ }
 {
     match event {
-        LiveEvent::OnLink(Event::Receive(octets)) => octets.len() <= 260,
+        LiveEvent::OnLink(Event::Receive(octets)) => octets.len() <= MAX_MESSAGE,
         LiveEvent::OnLink(Event::Tick) | LiveEvent::WithoutLink => true,
         LiveEvent::Sold(booking) => booking.len() <= 120 && are_printable(booking),
     }
@@ -53,7 +54,7 @@ fn bring_to_disk<D: Disk>(disk: &mut D) -> Result<(), CannotLog>
 
 impl<D: Disk> Log<D> {
     /// Logs an event, where a journal is kept. It need not be on the disk before the next sync. `CannotLog` where what
-    /// came has more than 260 octets, or the disk did not take the line.
+    /// came has more than `MAX_MESSAGE` octets, or the disk did not take the line.
     pub fn log(&mut self, event: LiveEvent<'_>) -> Result<(), CannotLog>
         ensures { WritesKept D.holds D.may_leave D.moment D.left_since D.has_failed self.old.disk (live_event_of event.entry) (is_ok result) self.new.disk }
     {

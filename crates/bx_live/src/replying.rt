@@ -13,11 +13,14 @@ use arrayvec::ArrayVec;
 use bx_day::Exchange;
 use bx_devices::WriteFailed;
 use bx_events::{Event, LiveEvent};
-use bx_frames::End;
+use bx_frames::{End, MAX_MESSAGES};
 use bx_q931::Octets;
 
+/// The most replies that are owed: one to each message of a turn.
+const MAX_REPLIES: usize = MAX_MESSAGES as usize;
+
 /// Replies that are owed, in the order of the messages that came.
-type Replies = ArrayVec<Octets, 64>;
+type Replies = ArrayVec<Octets, MAX_REPLIES>;
 
 /// A message that came: it is logged, and happens. What is replied to it is owed.
 fn hear<W: World>(
@@ -26,7 +29,7 @@ fn hear<W: World>(
     message: &Octets,
     replies: &mut Replies,
 ) -> Result<(), CannotLog>
-    requires { length replies.old.items < 64 }
+    requires { length replies.old.items < MAX_MESSAGES }
     ensures ran { HearsOne W.did world.old world.new exchange.old replies.old.items message.now.items exchange.new replies.new.items result }
     ensures moment { exchange.new.moment ≡ exchange.old.moment }
     ensures few { length replies.new.items ≤ length replies.old.items + 1 }
@@ -49,7 +52,7 @@ fn gather<W: World>(
     room: u32,
     replies: &mut Replies,
 ) -> Result<u32, CannotLog>
-    requires room { room < 64 }
+    requires room { room < MAX_MESSAGES }
     requires none { replies.old.items ≡ [] }
     ensures ran { HearsFrom W.did world.old world.new exchange.old room first.now.items exchange.new replies.new.items result }
     ensures moment { exchange.new.moment ≡ exchange.old.moment }
@@ -97,7 +100,7 @@ pub(crate) fn hear_together<W: World>(
     first: &Octets,
     room: u32,
 ) -> Result<u32, Stop>
-    requires { room < 64 }
+    requires { room < MAX_MESSAGES }
     ensures ran { RunsInside W.did world.old world.new (Receiving exchange.old room [] first.now.items) (heard_with exchange.new result) }
     ensures moment { exchange.new.moment ≡ exchange.old.moment }
     ensures fewer { IfOk result (λ left. left ≤ room) }

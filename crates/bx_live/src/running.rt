@@ -2,6 +2,7 @@
 
 ghost use Rattle.std.specs.Prelude.{◌≡◌, ℕ, ◌≤◌, min, max, Ok, OnOk};
 ghost use Rattle.bx_events.specs.Events.{Tick, OnLink, WithoutLink};
+ghost use Rattle.bx_frames.specs.declared.turn.TheConstants.{MAX_MESSAGES};
 ghost use Rattle.bx_day.specs.Day.{Day};
 ghost use Rattle.bx_live.specs.Runs.{Logging, Hearing, Between, Closing, Done, Losing};
 ghost use Rattle.bx_live.specs.Running.{RunsInside, or_over};
@@ -37,7 +38,8 @@ fn pass_without_link<W: World>(exchange: &mut Exchange, world: &mut W) -> Result
 
 /// Both halves of a turn.
 fn run_turn<W: World>(exchange: &mut Exchange, world: &mut W) -> Result<(), Stop>
-    ensures ran { RunsInside W.did world.old world.new (Logging exchange.old 64 (OnLink Tick)) (or_stopped (Between exchange.new) exchange.new result) }
+    ensures ran { RunsInside W.did world.old world.new (Logging exchange.old MAX_MESSAGES (OnLink Tick))
+        (or_stopped (Between exchange.new) exchange.new result) }
     ensures moment { RisesByTurn exchange.old exchange.new result }
 {
     open_turn(exchange, world)?;
@@ -46,7 +48,7 @@ fn run_turn<W: World>(exchange: &mut Exchange, world: &mut W) -> Result<(), Stop
 
 /// The next second with a peer. A fault of the link drops it.
 fn pass_with_peer<W: World>(exchange: &mut Exchange, world: &mut W) -> Result<Second, CannotLog>
-    ensures ran { RunsInside W.did world.old world.new (Logging exchange.old 64 (OnLink Tick)) (after_second exchange.new result) }
+    ensures ran { RunsInside W.did world.old world.new (Logging exchange.old MAX_MESSAGES (OnLink Tick)) (after_second exchange.new result) }
     ensures moment { RisesBySecond exchange.old exchange.new result }
     ensures passes { ¬ (result ≡ Ok Ended) }
 {

@@ -1,15 +1,9 @@
 //! When the seconds of a live day begin.
 
-ghost use Rattle.std.specs.Prelude.{◌≡◌, ◌≤◌, ◌/◌, max};
-ghost use Rattle.std.specs.Duration.{as_nanos};
-
-use std::time::Duration;
+ghost use Rattle.std.specs.Prelude.{◌≡◌, ◌≤◌};
 
 /// A second of the clock, in nanoseconds.
 pub const SECOND: u128 = 1_000_000_000;
-
-/// The least time in which a peer has to end its turn, in nanoseconds.
-const LEAST_TURN: u64 = 50_000_000;
 
 /// When each second of a day begins, by the second of the clock at which moment 0 is, counted from 1970-01-01T00:00:00Z, and by how
 /// many seconds of the day are one of the clock.
@@ -21,7 +15,7 @@ pub struct Schedule {
 }
 
 impl Schedule {
-    ghost use Rattle.bx_live.specs.Schedules.{instant_of_second, turn_of, first_instant_of, pace_of};
+    ghost use Rattle.bx_live.specs.Schedules.{instant_of_second, first_instant_of, pace_of};
 
     /// The schedule of a day whose moment 0 is this second of the clock, and of which so many seconds, at least one, are one of the
     /// clock.
@@ -38,12 +32,5 @@ impl Schedule {
         ensures { result ≡ instant_of_second self.now second }
     {
         u128::from(self.first) * SECOND + u128::from(second) * SECOND / u128::from(self.pace)
-    }
-
-    /// How long a peer has to end its turn: two seconds of the day, but at least 50 milliseconds.
-    pub fn turn(&self) -> Duration
-        ensures { as_nanos result ≡ turn_of self.now }
-    {
-        Duration::from_nanos(LEAST_TURN.max(2_000_000_000 / u64::from(self.pace)))
     }
 }

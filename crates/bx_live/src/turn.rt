@@ -2,6 +2,7 @@
 
 ghost use Rattle.std.specs.Prelude.{◌≡◌, ◌++◌, ◌∷◌};
 ghost use Rattle.bx_events.specs.Events.{Tick, OnLink};
+ghost use Rattle.bx_frames.specs.declared.turn.TheConstants.{MAX_MESSAGES};
 ghost use Rattle.bx_live.specs.Runs.{Logging, Hearing};
 ghost use Rattle.bx_live.specs.Running.{RunsInside};
 ghost use Rattle.bx_live.specs.Inside.{or_stopped, RisesByTurn, SyncsBefore};
@@ -55,7 +56,8 @@ fn sync_before<W: World>(world: &mut W, sent: &[Octets]) -> Result<(), CannotLog
 
 /// The next second, and what is sent in it.
 pub(crate) fn open_turn<W: World>(exchange: &mut Exchange, world: &mut W) -> Result<(), Stop>
-    ensures ran { RunsInside W.did world.old world.new (Logging exchange.old 64 (OnLink Tick)) (or_stopped (Hearing exchange.new 64) exchange.new result) }
+    ensures ran { RunsInside W.did world.old world.new (Logging exchange.old MAX_MESSAGES (OnLink Tick))
+        (or_stopped (Hearing exchange.new MAX_MESSAGES) exchange.new result) }
     ensures moment { RisesByTurn exchange.old exchange.new result }
 {
     world.log(LiveEvent::OnLink(Event::Tick))?;

@@ -1,4 +1,4 @@
-//! The world outside a live day: its clock, its peers and its journal.
+//! The world outside a live day: its clock, its peer and its journal.
 
 ghost use Rattle.std.specs.Prelude.{◌≡◌, ◌++◌, ◌∷◌, [], List, is_ok, IfOk};
 ghost use Rattle.bx_events.specs.Told.{live_event_of};

@@ -5,9 +5,10 @@ use Rattle.bx_day.specs.Day.{Day}
 use Rattle.bx_journal.specs.declared.file.FileDisk.{FileDisk}
 use Rattle.bx_journal.specs.declared.head.Head.{Head}
 use Rattle.bx_line_world.specs.Days.{GoesByLine}
-use Rattle.bx_line_world.specs.Posts.{no_post}
+use Rattle.bx_line_world.specs.Posts.{post_from}
 use Rattle.bx_line_world.specs.Wires.{WireAct}
 use Rattle.bx_line_world.specs.declared.line_world.LineWorld.{LineWorld}
+use Rattle.bx_line_world.proofs.Apart.{starts_apart, lost_before}
 use Rattle.bx_line_world.proofs.Never.{never_ends}
 use Rattle.bx_live.specs.Acts.{Act, ended}
 use Rattle.bx_live.specs.Held.{IsHeldOut, IsHeldRun}
@@ -29,10 +30,10 @@ module _ {W D : Type 0} (did : W → List WireAct → W → Type 0) (holds may_l
   abbrev Goes : LineWorld W D → List Act → LineWorld W D → Type 0
   Goes = Chain (GoesByLine did holds may_leave moment left_since has_failed)
 
-  pub by_line : (wire : W) (schedule : Schedule) (kept : Log D) (turns : ℕ) (from to : Day) (old new : LineWorld W D) (done : Result (Unit {0}) CannotLog) → done ≡ Ok tt → old.line.wire ≡ wire → old.schedule ≡ schedule → old.log ≡ kept → old.line.end.network ≡ true → old.line.post ≡ no_post
+  pub by_line : (wire : W) (schedule : Schedule) (kept : Log D) (turns : ℕ) (from to : Day) (old new : LineWorld W D) (done : Result (Unit {0}) CannotLog) → done ≡ Ok tt → old.line.wire ≡ wire → old.schedule ≡ schedule → old.log ≡ kept → old.line.end.network ≡ true → old.line.post ≡ post_from from.moment
       → (ran : Runs Goes old new (Between from) (or_over (Done to) to done)) → IsHeldRun turns from to ran.acts done
       → RunsByLine did holds may_leave moment left_since has_failed wire schedule kept turns from to
-  by_line wire schedule kept turns from to old new done is over scheduled by side nothing ran held = record {
+  by_line wire schedule kept turns from to old new done is over scheduled by side before ran held = record {
     acts = ran.acts;
     old = old;
     new = new;
@@ -40,12 +41,13 @@ module _ {W D : Type 0} (did : W → List WireAct → W → Type 0) (holds may_l
     scheduled = scheduled;
     kept_by = by;
     side = side;
-    nothing_told = nothing;
+    told_before = before;
     went = ran.done;
     run = subst (λ (r : Result (Unit {0}) CannotLog). IsRun (Between from) ran.acts (or_over (Done to) to r)) is ran.goes;
     after = held.after;
     held = held.held;
     out = subst (λ (r : Result (Unit {0}) CannotLog). OnOk r (ended ran.acts ≡ false → IsHeldOut turns to)) is held.out (never_ends did holds may_leave moment left_since has_failed old new ran.acts ran.done);
+    apart = λ later. starts_apart did holds may_leave moment left_since has_failed old new ran.acts ran.done (lost_before from.moment old.line.post before later);
   }
 
   -- a run that is over before its end has a journal

@@ -3,9 +3,10 @@ use Rattle.std.proofs.Common.{◌≡◌, ℕ, Bool, true, false, List, [], ◌�
 use Rattle.bx_base.specs.Bookings.{Row}
 use Rattle.bx_day.specs.Day.{Day}
 use Rattle.bx_events.specs.Events.{Sold, OnLink, WithoutLink}
+use Rattle.bx_line_world.proofs.Apart.{starts_apart, lost_before}
 use Rattle.bx_line_world.proofs.Never.{never_ends}
 use Rattle.bx_line_world.specs.Days.{GoesByLine}
-use Rattle.bx_line_world.specs.Posts.{no_post}
+use Rattle.bx_line_world.specs.Posts.{post_from}
 use Rattle.bx_line_world.specs.Wires.{WireAct}
 use Rattle.bx_line_world.specs.declared.line_world.LineWorld.{LineWorld}
 use Rattle.bx_live.specs.Acts.{Act, Began, Dropped, Logged, Synced, Wrote, Read, Took, EndedDay}
@@ -140,9 +141,9 @@ module _ {W D : Type 0} (did : W → List WireAct → W → Type 0) (holds may_l
   abbrev Dealt : Office → List Deal → Office → Type 0
   Dealt = deals_by_line did holds may_leave moment left_since has_failed
 
-  pub sells_by : (wire : W) (schedule : Schedule) (kept : Log D) (channels : List Bool) (turns : ℕ) (from to : Day) (start old new : Office) → start ≡ old → old.line.wire.wire ≡ wire → old.schedule ≡ schedule → old.log ≡ kept → old.line.end.network ≡ true → old.line.post ≡ no_post
+  pub sells_by : (wire : W) (schedule : Schedule) (kept : Log D) (channels : List Bool) (turns : ℕ) (from to : Day) (start old new : Office) → start ≡ old → old.line.wire.wire ≡ wire → old.schedule ≡ schedule → old.log ≡ kept → old.line.end.network ≡ true → old.line.post ≡ post_from from.moment
       → IsWholeSaleRun Dealt channels start new from to turns → SellsByLine did holds may_leave moment left_since has_failed wire schedule kept channels turns from to
-  sells_by wire schedule kept channels turns from to start old new same over scheduled by side nothing begun =
+  sells_by wire schedule kept channels turns from to start old new same over scheduled by side before begun =
       let ran = subst (λ (s : Office). IsWholeSaleRun Dealt channels s new from to turns) same begun in
       record {
         old = old;
@@ -151,9 +152,10 @@ module _ {W D : Type 0} (did : W → List WireAct → W → Type 0) (holds may_l
         scheduled = scheduled;
         kept_by = by;
         side = side;
-        nothing_told = nothing;
+        told_before = before;
         sells = ran;
         out = ran.out (never_ends (did_at_door did) holds may_leave moment left_since has_failed old new (acts_of ran.run.deals) ran.run.done);
+        apart = λ later. starts_apart (did_at_door did) holds may_leave moment left_since has_failed old new (acts_of ran.run.deals) ran.run.done (lost_before from.moment old.line.post before later);
       }
 
   on_disk : (old new : Office) (acts : List Act) → Chain GoesAtDoor old acts new → Chain (OnLog holds may_leave moment left_since has_failed) old.log.disk acts new.log.disk

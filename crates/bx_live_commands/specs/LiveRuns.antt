@@ -1,10 +1,11 @@
 -- A day that was run by the clock, over a data link.
-use Rattle.std.specs.Prelude.{◌≡◌, ◌⊎◌, ℕ, Bool, true, false, List, [], ◌∷◌, Some}
+use Rattle.std.specs.Prelude.{◌≡◌, ◌⊎◌, ℕ, ◌≤◌, Bool, true, false, List, [], ◌∷◌, Some}
 use Rattle.bx_day.specs.Day.{Day}
 use Rattle.bx_day.specs.Outages.{live_day_after}
 use Rattle.bx_journal.specs.Events.{IsLoggable}
 use Rattle.bx_line_world.specs.Days.{GoesByLine}
-use Rattle.bx_line_world.specs.Posts.{no_post}
+use Rattle.bx_line_world.specs.Laws.{BeginsApart}
+use Rattle.bx_line_world.specs.Posts.{post_from}
 use Rattle.bx_line_world.specs.Wires.{WireAct}
 use Rattle.bx_line_world.specs.declared.line_world.LineWorld.{LineWorld}
 use Rattle.bx_live.specs.Acts.{Act, Logged, logged_by}
@@ -25,12 +26,14 @@ pub record RunsByLine {W D : Type 0} (did : W → List WireAct → W → Type 0)
   pub scheduled : old.schedule ≡ schedule
   pub kept_by : old.log ≡ kept
   pub side : old.line.end.network ≡ true
-  pub nothing_told : old.line.post ≡ no_post
+  pub told_before : old.line.post ≡ post_from from.moment
   pub went : Chain (GoesByLine did holds may_leave moment left_since has_failed) old acts new
   pub run : IsRun (Between from) acts (Done to)
   pub after : to ≡ live_day_after (logged_by acts) from
   pub held : AreHeld turns from acts
   pub out : IsHeldOut turns to
+  -- a day that goes on begins its first second without a link
+  pub apart : 1 ≤ from.moment → BeginsApart acts
 
 -- the last act is that an event was not taken which no journal has, as octets that are longer than a message
 abbrev pub EndsWithNoEvent : List Act → Type 0

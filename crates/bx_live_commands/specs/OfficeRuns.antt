@@ -1,8 +1,9 @@
 -- A day that was run by the clock, over a data link, with a booking office beside it.
-use Rattle.std.specs.Prelude.{◌≡◌, ◌⊎◌, ℕ, Bool, true, false, List, Some}
+use Rattle.std.specs.Prelude.{◌≡◌, ◌⊎◌, ℕ, ◌≤◌, Bool, true, false, List, Some}
 use Rattle.bx_day.specs.Day.{Day}
 use Rattle.bx_line_world.specs.Days.{GoesByLine}
-use Rattle.bx_line_world.specs.Posts.{no_post}
+use Rattle.bx_line_world.specs.Laws.{BeginsApart}
+use Rattle.bx_line_world.specs.Posts.{post_from}
 use Rattle.bx_line_world.specs.Wires.{WireAct}
 use Rattle.bx_line_world.specs.declared.line_world.LineWorld.{LineWorld}
 use Rattle.bx_live.specs.Held.{IsHeldOut}
@@ -33,9 +34,11 @@ pub record SellsByLine {W D : Type 0} (did : W → List WireAct → W → Type 0
   pub scheduled : old.schedule ≡ schedule
   pub kept_by : old.log ≡ kept
   pub side : old.line.end.network ≡ true
-  pub nothing_told : old.line.post ≡ no_post
+  pub told_before : old.line.post ≡ post_from from.moment
   pub sells : IsWholeSaleRun (deals_by_line did holds may_leave moment left_since has_failed) channels old new from to turns
   pub out : IsHeldOut turns to
+  -- a day that goes on begins its first second without a link
+  pub apart : 1 ≤ from.moment → BeginsApart (acts_of sells.run.deals)
 
 -- Such a world has gone through the deals of a run that is over before its end, and why: the disk of its journal has failed, or what came is no event
 -- of a journal. Nothing is logged after that, and nobody is told that something is sold.

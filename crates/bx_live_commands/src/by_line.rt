@@ -47,7 +47,8 @@ pub fn run_by_clock<'a, 'h, H: Clock + Eprint, W: Wire + Drop, D: Disk + Drop>(
     ensures ran { IfOk result (RunsByLine W.did D.holds D.may_leave D.moment D.left_since D.has_failed wire schedule resumed.log turns resumed.exchange) }
 {
     let Resumed { mut exchange, log } = resumed;
-    let world = LineWorld::new(schedule, Line::new(true, wire), log);
+    let line = Line::new(true, wire).going_on(exchange.moment());
+    let world = LineWorld::new(schedule, line, log);
     let mut telling = Telling::new(rt, world, told.clock(), told.is_shown);
     let done = run_held(&mut exchange, &mut telling, turns);
     telling.clear();

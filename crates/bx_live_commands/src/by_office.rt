@@ -54,7 +54,8 @@ pub fn run_with_office<'a, 'h, H: Clock + Eprint + AllocGlobal, W: Wire + Drop, 
         day,
     } = premises;
     let wire = OfficeWire::new(wire, beside);
-    let world = LineWorld::new(schedule, Line::new(true, wire), log);
+    let line = Line::new(true, wire).going_on(exchange.moment());
+    let world = LineWorld::new(schedule, line, log);
     let clock = told.clock();
     let telling = Telling::new(rt, world, clock, told.is_shown);
     let opened = Opened {
