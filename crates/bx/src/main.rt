@@ -1,4 +1,4 @@
-//! The program: its words and the standard streams, handed to `main_words`.
+//! The program: its words and the standard streams, handed to `run_program`.
 #![tactic(auto)]
 
 use bx_cli::run_program;

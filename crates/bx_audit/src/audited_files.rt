@@ -2,6 +2,7 @@
 
 ghost use Rattle.std.specs.Prelude.{◌≤◌, None, IfOk, IfErr, OnOk};
 ghost use Rattle.bx_base.specs.PlanParts.{parts_of};
+ghost use Rattle.bx_capture.specs.declared.start.TheConstants.{LAST_START};
 ghost use Rattle.bx_day.specs.Day.{Day};
 ghost use Rattle.bx_day_openings.specs.CaptureOpenings.{IsFirstOf};
 ghost use Rattle.bx_day_openings.specs.Replays.{IsDayThrough, HasNoReplay};
@@ -82,7 +83,7 @@ fn audited_into<'a, R: Read + Drop, W: Write + Drop>(
     mut file: Option<Watched<W>>,
     first: u32,
 ) -> Result<(Exchange, bool), DayCommandFault<'a>>
-    requires { first ≤ 4294667295 }
+    requires { first ≤ LAST_START }
     ensures audited { IfOk result (λ audited. IsAuditedInto W.contents opening (R.remaining (device_of journal)) file first audited.0 audited.1) }
     ensures refused { IfErr result (HasNoReplay name.now (of_any_day opening.digest) opening.channels opening.exchange) }
 {
@@ -99,7 +100,7 @@ fn audited_from<'a, H: Files + AllocGlobal + Eprint>(
     first: u32,
 ) -> Result<(Exchange, bool), DayCommandFault<'a>>
     requires begins { IsFirstOf request.capture first }
-    requires limit { first ≤ 4294667295 }
+    requires limit { first ≤ LAST_START }
     requires tied { IsTied None (parts_of tied.now.plan) tied.now.digest }
     requires through { HasJournal }
     ensures audited { IfOk result (λ audited. IsDayAudited H.File.contents request.entry.capture audited.0 audited.1) }

@@ -1,6 +1,7 @@
 //! The day after a journal.
 
 ghost use Rattle.std.specs.Prelude.{◌≤◌, IfOk, IfErr, IsErrOf};
+ghost use Rattle.bx_capture.specs.declared.start.TheConstants.{LAST_START};
 ghost use Rattle.bx_devices.specs.Watching.{device_of};
 ghost use Rattle.bx_journal.specs.Heads.{of_any_day};
 ghost use Rattle.bx_audit.specs.Audits.{IsKeptSoFar, IsOpeningAudited, IsNotAuditedAsRead};
@@ -17,7 +18,7 @@ use std::io::{Read, Write};
 
 /// The exchange after just the events and sales of a journal of this name, from the opening of the day of its plan on.
 /// A journal that was not begun has no event. Where there is a file, it takes the packets of what was sent and heard, as it took
-/// them on the day of the journal; moment 0 is the first second, which is at most 4,294,667,295. The journal is read in pieces,
+/// them on the day of the journal; moment 0 is the first second, which is at most `LAST_START`. The journal is read in pieces,
 /// so it may be of any length.
 ///
 /// `Sale` where a sale that stands in it is none of its day; else `Journal`, as `BadLine`, `OtherPlan` or `OtherRules`, where what was read is no
@@ -30,7 +31,7 @@ pub fn audited_day<'a, R: Read, W: Write + Drop>(
     file: &mut Option<Watched<W>>,
     first: u32,
 ) -> Result<Exchange, DayCommandFault<'a>>
-    requires { first ≤ 4294667295 }
+    requires { first ≤ LAST_START }
     ensures audited { IfOk result (IsOpeningAudited opening (R.remaining (device_of journal.old)) W.contents file.old file.new first) }
     ensures refused { IfErr result (IsNotAuditedAsRead name.now opening (reading_of R.remaining journal.old journal.new)) }
     // No day is wanted, so none is another one.

@@ -35,8 +35,8 @@ static CASES: [Case; 15] = [
         Fails("bx: P3 OutOfLimits 2\n"),
     ),
     (
-        "5,000 bookings",
-        "bx-plan 2\nchannels\nbookings 5000\n",
+        "16,001 bookings",
+        "bx-plan 2\nchannels\nbookings 16001\n",
         Fails("bx: P2 BadCount\n"),
     ),
     (

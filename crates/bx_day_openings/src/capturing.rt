@@ -3,6 +3,7 @@
 ghost use Rattle.std.specs.Prelude.{◌≡◌, ◌≤◌, ◌⊎◌, true, false, None, IfOk, IfErr, OnOk};
 ghost use Rattle.std.specs.Io.KnownBytes.{Appends};
 ghost use Rattle.bx_capture.specs.Packets.{file_header};
+ghost use Rattle.bx_capture.specs.declared.start.TheConstants.{LAST_START};
 ghost use Rattle.bx_devices.specs.Watching.{device_of, is_faulted};
 ghost use Rattle.bx_day_openings.specs.CaptureOpenings.{IsFirstOf, IsFileFor};
 ghost use Rattle.bx_day_openings.specs.OpeningRefusals.{IsNoFirst, IsNoFile};
@@ -21,7 +22,7 @@ use std::io::Write;
 /// the zone that they name are no day, `Capture` where a capture cannot name the seconds of that day.
 pub fn first_of<'a>(capture: Option<CaptureWords<'a>>) -> Result<u32, DayCommandFault<'a>>
     ensures first { IfOk result (IsFirstOf capture.entry) }
-    ensures limit { IfOk result (λ first. first ≤ 4294667295) }
+    ensures limit { IfOk result (λ first. first ≤ LAST_START) }
     ensures refused { IfErr result (IsNoFirst capture.entry) }
 {
     let Some(CaptureWords { file: _, day }) = capture else {

@@ -1,6 +1,7 @@
 //! When a day is that goes by the clock.
 
 ghost use Rattle.std.specs.Prelude.{◌≡◌, ◌≤◌, pos, IfOk, IfErr};
+ghost use Rattle.bx_capture.specs.declared.start.TheConstants.{LAST_START};
 ghost use Rattle.bx_day_openings.specs.Hours.{AreHours, IsNoHours};
 ghost use Rattle.bx_day_openings.specs.HoursInside.{IsBegunAt, IsUnnamed};
 
@@ -25,7 +26,7 @@ pub struct Hours {
 /// The second of the clock at which a day begins.
 fn beginning_of<'a>(day: &Day) -> Result<u32, DayCommandFault<'a>>
     ensures first { IfOk result (λ first. IsBegunAt day.now first) }
-    ensures limit { IfOk result (λ first. first ≤ 4294667295) }
+    ensures limit { IfOk result (λ first. first ≤ LAST_START) }
     ensures refused { IfErr result (IsUnnamed day.now) }
 {
     match first_second(day) {
@@ -38,7 +39,7 @@ fn beginning_of<'a>(day: &Day) -> Result<u32, DayCommandFault<'a>>
 /// begins before 1970-01-01T00:00:00Z, or so late that 32 bits do not number its seconds.
 pub fn hours_of<'a>(hours: DayHours<'a>) -> Result<Hours, DayCommandFault<'a>>
     ensures hours { IfOk result (AreHours hours.entry) }
-    ensures limit { IfOk result (λ hours. hours.first ≤ 4294667295) }
+    ensures limit { IfOk result (λ hours. hours.first ≤ LAST_START) }
     ensures refused { IfErr result (IsNoHours hours.entry) }
 {
     let day = match Day::new(hours.date, hours.zone) {

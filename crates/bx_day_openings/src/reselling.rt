@@ -21,7 +21,7 @@ pub enum SaleFault {
     /// Its booking had started by then.
     #[error("J10 LateSale")]
     LateSale,
-    /// The day had 4,000 bookings by then.
+    /// The day had 16,000 bookings by then.
     #[error("J11 TooMany")]
     TooMany,
     /// At some moment its booking and what was promised are more than there are channels.

@@ -1,6 +1,7 @@
 //! The day of a far end, run by the clock over a data link.
 
 ghost use Rattle.std.specs.Prelude.{◌≡◌, ◌≤◌};
+ghost use Rattle.bx_capture.specs.declared.start.TheConstants.{LAST_START};
 ghost use Rattle.bx_far_commands.specs.LineInside.{RunsSeen, RunsTo};
 
 use bx_calendar::Clock as DayClock;
@@ -40,7 +41,7 @@ fn run_seen<'h, H: Clock + Eprint, W: World, F: Write + Drop>(
     turns: u32,
     view: LineView<F>,
 ) -> Seen<W>
-    requires { view.first ≤ 4294667295 }
+    requires { view.first ≤ LAST_START }
     ensures { RunsSeen H W.did world result.world turns far.old far.new F.contents view.file view.first result.is_whole }
 {
     let LineView {
@@ -70,7 +71,7 @@ pub(crate) fn run_over_wire<'h, H: Clock + Eprint, W: Wire + Drop, F: Write + Op
     turns: u32,
     view: LineView<F>,
 ) -> (u32, bool)
-    requires { view.first ≤ 4294667295 }
+    requires { view.first ≤ LAST_START }
     ensures { RunsTo H W.did F.contents wire schedule turns far view.file view.first result.0 result.1 }
 {
     let mut far = far;

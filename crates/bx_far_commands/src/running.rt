@@ -1,6 +1,7 @@
 //! The day of a far end, run over a connection.
 
 ghost use Rattle.std.specs.Prelude.{◌≡◌, ◌≤◌, IfOk, IfErr};
+ghost use Rattle.bx_capture.specs.declared.start.TheConstants.{LAST_START};
 ghost use Rattle.bx_far_commands.specs.FarRefusals.{IsUnjoined, IsSessionFault};
 ghost use Rattle.bx_day_openings.specs.Openings.{IsFarOpening};
 ghost use Rattle.bx_far_commands.specs.Kept.{IsFarKept, IsFarKeptSoFar};
@@ -39,7 +40,7 @@ fn run_with_exchange<'a, H: Clock + Eprint, R: Read + Drop, S: Write + Drop, W: 
     first: u32,
     is_shown: bool,
 ) -> Result<u32, DayCommandFault<'a>>
-    requires { first ≤ 4294667295 }
+    requires { first ≤ LAST_START }
     ensures ran { IfOk result (λ moment. IsFarOpening far → IsFarKept W.contents file.old file.new first moment) }
     ensures stopped { IfErr result (λ fault. IsSessionFault fault × IsFarKeptSoFar W.contents file.old file.new first far) }
 {
@@ -66,7 +67,7 @@ pub(crate) fn run_connected<'a, H: System, W: Write + Drop>(
     first: u32,
     is_shown: bool,
 ) -> Result<u32, DayCommandFault<'a>>
-    requires { first ≤ 4294667295 }
+    requires { first ≤ LAST_START }
     ensures ran { IfOk result (λ moment. IsFarOpening far → IsFarKept W.contents file.old file.new first moment) }
     ensures stopped { IfErr result (IsUnjoined (IsFarKeptSoFar W.contents file.old file.new first far)) }
 {

@@ -63,13 +63,13 @@ const faults = {
   B7: \"The number is not 1 to 15 digits.\",
   B8: \"The pay is not 1 to 1000000000.\",
   K1: \"The channels do not carry what is promised.\",
-  K2: \"The plan has 4000 bookings already.\",
+  K2: \"The plan has 16000 bookings already.\",
   Q1: \"At some moment of it other promises have all channels: no pay is enough.\",
   Memory: \"The office has no memory left. Ask again.\",
 };
 const reasons = {
   Late: \"it begins by now\",
-  Full: \"the plan has 4000 bookings already\",
+  Full: \"the plan has 16000 bookings already\",
   NoChannel: \"at some moment of it no channel is left\",
   OtherChannels: \"this day's plan does not let calls be added\",
   Memory: \"the office has no memory left\",

@@ -3,11 +3,10 @@
 ghost use Rattle.std.specs.Prelude.{◌≤◌, ℕ, IfOk, length};
 ghost use Rattle.bx_office_door.specs.Streams.{IsCome};
 
-use std::fs::Files;
+use std::io;
 use std::io::{ErrorKind, Read, Write};
 use std::net::{Net, Shutdown, TcpListener, TcpStream};
 use std::os::unix::net::{UnixListener, UnixStream};
-use std::{fs, io};
 
 /// What a socket has.
 #[derive(Clone, Copy, Debug, PartialEq, Eq)]
@@ -87,13 +86,6 @@ impl Listening {
         let listener = TcpListener::bind(rt, ("127.0.0.1", port))?;
         listener.set_nonblocking(true)?;
         Ok(Listening::Port(listener))
-    }
-
-    /// Listens at a path, where nothing stands yet.
-    pub fn at_path<H: Files + Net>(rt: &H, path: &str) -> io::Result<Listening> {
-        let listener = UnixListener::bind(rt, path)?;
-        listener.set_nonblocking(true)?;
-        Ok(Listening::Path(listener))
     }
 
     /// The next client, where one waits.

@@ -331,9 +331,9 @@ static BATCHES: [Batch; 4] = [
     ),
     (
         "the last row of a plan",
-        3999,
+        15999,
         &[Answer::Accepted, Answer::Refused(NoSale::Full)],
-        "row,answer,plan row,reason\n1,accepted,4000,\n2,refused,,Full\n",
+        "row,answer,plan row,reason\n1,accepted,16000,\n2,refused,,Full\n",
     ),
     (
         "some",
@@ -352,7 +352,7 @@ static BATCHES: [Batch; 4] = [
 
 /// Whether a customer is told this.
 fn is_sold(alloc: Global, batch: &Batch) -> bool {
-    if batch.2.len() > 4000 {
+    if batch.2.len() > 16000 {
         return false;
     }
     match sold_text(alloc, batch.1, batch.2) {

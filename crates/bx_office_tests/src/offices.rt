@@ -289,6 +289,32 @@ fn faults_of_bookings_are_told(rt: HostRuntime) -> Result<(), Fail> {
 }
 
 #[test]
+fn a_quote_without_its_end_is_told(rt: HostRuntime) -> Result<(), Fail> {
+    let alloc = rt.alloc();
+    let (door, port) = opened(&rt, alloc)?;
+    let mut asking = client(
+        &rt,
+        alloc,
+        port,
+        "GET /quote?start=2026-01-05T00:00:10Z",
+        "\r\n",
+    )?;
+    assert!(rt;
+        ran(alloc, &door, QUIET) == Some((2, 0, 0)),
+        "nothing is sold"
+    );
+    assert!(rt;
+        is_told_so(
+            &mut asking,
+            "HTTP/1.1 400 Bad Request\r\n",
+            "\r\n\r\nno start or no end\n"
+        ),
+        "told"
+    );
+    Ok(())
+}
+
+#[test]
 fn a_late_second_is_told(rt: HostRuntime) -> Result<(), Fail> {
     let alloc = rt.alloc();
     let (door, port) = opened(&rt, alloc)?;

@@ -5,6 +5,7 @@ use Rattle.bx_day_chart.specs.Outages.{noted}
 use Rattle.bx_day_chart.specs.declared.outages.Outage.{Outage}
 use Rattle.bx_live.specs.declared.world.Begin.{Begin}
 use Rattle.bx_live.specs.declared.world.Begin.TheVariants as begins
+use Rattle.bx_live.specs.declared.schedule.TheConstants.{SECOND}
 use Rattle.bx_market.specs.declared.market.Answer.{Answer}
 use Rattle.bx_market.specs.declared.market.Answer.TheVariants as answers
 use Rattle.bx_q931.specs.Messages.{PlainMessage, message_at}
@@ -63,4 +64,4 @@ sold_in_batch sold (answers.Refused why ∷ more) = sold_in_batch sold more
 
 -- whole seconds between two readings of a clock, in nanoseconds
 abbrev pub seconds_since : Option ℕ → ℕ → Option ℕ
-seconds_since first now = option_map (λ at. min ((now - at) / 1_000_000_000) 18446744073709551615) first
+seconds_since first now = option_map (λ at. min ((now - at) / SECOND) 18446744073709551615) first

@@ -4,6 +4,7 @@ use Rattle.bx_office_world.specs.Sold.{sold_text}
 use Rattle.bx_office_world.specs.declared.fault.NoAnswer.{NoAnswer}
 use Rattle.bx_office_world.specs.declared.fault.NoAnswer.TheVariants as no
 use Rattle.bx_base.specs.Bookings.{Row}
+use Rattle.bx_base.specs.declared.bookings.TheConstants.{MAX_BOOKINGS}
 use Rattle.bx_book.specs.Texts.{IsBook, IsBookFault}
 use Rattle.csv.specs.Reading.{strip_bom}
 use Rattle.bx_book.specs.Rows.{span_of}
@@ -127,7 +128,7 @@ pub record IsServing (desk : Desk) (d : Day) (old new : List Guest) (result : Op
 -- ---- what is sold
 
 abbrev pub IsSoldReply : Selling → List Answer → Reply → Type 0
-IsSoldReply selling answers reply = ((reply.status ≡ statuses.Fine) × (reply.kind ≡ kinds.Csv) × (reply.allowed ≡ methods.Unsaid) × (reply.body.now ≡ sold_text selling.rows (take 4000 answers)))
+IsSoldReply selling answers reply = ((reply.status ≡ statuses.Fine) × (reply.kind ≡ kinds.Csv) × (reply.allowed ≡ methods.Unsaid) × (reply.body.now ≡ sold_text selling.rows (take MAX_BOOKINGS answers)))
     ⊎ (IsPlain statuses.Unavailable reply × (reply.body.now ≡ codes "Memory: what is sold stands in the plan\n"))
 
 -- just the customer of the batch is told it

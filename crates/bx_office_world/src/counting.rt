@@ -4,12 +4,9 @@ ghost use Rattle.std.specs.Prelude.{◌≡◌, ◌-◌, ◌/◌, min, option_map
 ghost use Rattle.bx_office_world.specs.Counting.{begin_counted, is_late, is_without_link, cleared_in, cleared, sold_in_batch, seconds_since};
 
 use crate::metrics::Figures;
-use bx_live::Begin;
+use bx_live::{Begin, SECOND};
 use bx_market::Answer;
 use bx_q931::{Kind, read};
-
-/// A second, in nanoseconds.
-const SECOND: u128 = 1_000_000_000;
 
 /// Whether a second begins late.
 pub(crate) fn is_late(begin: Begin) -> bool

@@ -99,6 +99,9 @@ pub fn answer_of(
         Route::Quote => of_kind(Kind::Text, quoted(alloc, opened, exchange, query)),
         Route::Chart => of_kind(Kind::Picture, drawn(alloc, opened, exchange, sight)),
         Route::Metrics => of_kind(Kind::Metrics, metrics_text(alloc, exchange, figures)),
-        _ => of_kind(Kind::Text, Ok(Vec::new(alloc))),
+        // That the day goes on needs no text; the door answers with the page and its parts, and bookings are sold.
+        Route::Health | Route::Home | Route::Script | Route::Style | Route::Bookings => {
+            of_kind(Kind::Text, Ok(Vec::new(alloc)))
+        }
     }
 }

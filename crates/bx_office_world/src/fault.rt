@@ -4,7 +4,7 @@ use bx_book::BookFault;
 use bx_planner::NoQuote;
 use thiserror::Error;
 
-/// Why there is no answer. Each is printed as the command prints it.
+/// Why there is no answer. Each is printed as the command prints it; `NoTimes`, which no command has, in plain words.
 #[derive(Clone, Copy, Debug, PartialEq, Eq, Error)]
 pub enum NoAnswer {
     /// A time of the records is outside the range of `jiff`.
@@ -13,8 +13,8 @@ pub enum NoAnswer {
     /// At this moment more must bookings run than there are channels.
     #[error("K1 TooManyMust {0}")]
     TooManyMust(u32),
-    /// The query of a quote has no start, or no end, or it has octets that are no text.
-    #[error("B2 WrongColumns 1")]
+    /// The query of a quote has no start, or no end.
+    #[error("no start or no end")]
     NoTimes,
     /// The times of a call are none.
     #[error(transparent)]

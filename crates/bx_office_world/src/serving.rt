@@ -10,7 +10,7 @@ use crate::desk::{Opened, Written, answer_of};
 use crate::fault::NoAnswer;
 use crate::metrics::Figures;
 use crate::sold::sold_text;
-use bx_base::Bookings;
+use bx_base::{Bookings, MAX_BOOKINGS};
 use bx_book::{BookFault, read_bookings};
 use bx_day::Exchange;
 use bx_day_chart::DaySight;
@@ -180,7 +180,7 @@ impl Desk<'_> {
 pub(crate) fn tell_sold(alloc: Global, door: &mut Door, selling: Selling, answers: &[Answer])
     ensures { IsToldSold selling answers.now (guests_of door.old) (guests_of door.new) }
 {
-    let count = answers.len().min(4000);
+    let count = answers.len().min(MAX_BOOKINGS);
     match sold_text(alloc, selling.rows, &answers[..count]) {
         Ok(text) => door.answer(selling.number, reply_of(Status::Fine, Kind::Csv, &text)),
         Err(_) => door.answer(

@@ -1,6 +1,7 @@
 //! What a customer is told of a batch.
 
 ghost use Rattle.std.specs.Prelude.{◌≡◌, ◌≤◌, ◌++◌, length, IfOk, OnOk};
+ghost use Rattle.bx_base.specs.declared.bookings.TheConstants.{MAX_BOOKINGS};
 ghost use Rattle.bx_office_world.specs.Sold.{reason_of, is_sold_answer, answer_line, sold_text};
 
 use bx_market::Answer;
@@ -53,7 +54,7 @@ fn is_accepted(answer: Answer) -> bool
 /// What a customer is told of a batch, as CSV: a header, and a line for each of its bookings. After so many rows of the plan stand the
 /// accepted ones, in their order. `AllocError` where memory runs out.
 pub fn sold_text(alloc: Global, rows: u16, answers: &[Answer]) -> Result<Vec<u8>, AllocError>
-    requires { length answers.now ≤ 4000 }
+    requires { length answers.now ≤ MAX_BOOKINGS }
     ensures { IfOk result (λ text. text.items ≡ sold_text rows answers.now) }
 {
     let mut text = Vec::new(alloc);

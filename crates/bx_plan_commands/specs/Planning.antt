@@ -4,6 +4,7 @@ use Rattle.std.specs.Io.KnownBytes.{Appends}
 use Rattle.bx_base.specs.Bookings.{Row}
 use Rattle.bx_devices.specs.Devices.{Reading, Writing, KeepsOutput}
 use Rattle.bx_devices.specs.Octets.{AppendsPrefix, ReadsWithin}
+use Rattle.bx_devices.specs.declared.octets.TheConstants.{MAX_OCTETS}
 use Rattle.bx_base.specs.PlanParts.{Parts, IsPlan}
 use Rattle.bx_book.specs.Rows.{Span}
 use Rattle.bx_book.specs.Streams.{IsBookRead, IsStreamFault}
@@ -39,4 +40,4 @@ IsRunRefusal input output span channels TooLong = IsStreamFault input span strea
 IsRunRefusal input output span channels (Book fault) = IsStreamFault input span (stream.Book fault) × KeepsOutput output
 IsRunRefusal input output span channels (TooManyMust moment) = ((rows : List Row) × IsBookRead input span rows × IsTooManyMust rows channels moment) × KeepsOutput output
 IsRunRefusal input output span channels WriteFailed = (output.is_faulted ≡ true) × IsPlanCut input output span channels
-IsRunRefusal input output span channels Memory = ((input.is_faulted ≡ false) × ReadsWithin input.before input.after 4_194_304) × KeepsOutput output
+IsRunRefusal input output span channels Memory = ((input.is_faulted ≡ false) × ReadsWithin input.before input.after MAX_OCTETS) × KeepsOutput output

@@ -70,7 +70,7 @@ fn put_away<D: Disk + Drop>(kept: Log<WaitingDisk<D>>) -> Result<Option<D>, Cann
 
 /// Rehearses a day towards a peer. Where a journal is kept, each event is logged before it happens, and all of it is on the disk at
 /// the end, also where a fault of the link has ended the day; where something cannot be logged there, nothing more is done, and
-/// `CannotLog` is answered. The first second of the view is at most 4,294,667,295.
+/// `CannotLog` is answered. The first second of the view is at most `LAST_START`.
 pub fn rehearse<'h, H: Clock + Eprint, P: Peer + Drop, D: Disk + Drop, F: Write + Drop>(
     rt: &'h H,
     opened: Opened<D>,

@@ -28,7 +28,7 @@ pub struct Ran<W> {
     pub is_whole: bool,
 }
 
-/// Runs a day over a world up to a turn of it, so that it is seen. The first second of the view is at most 4,294,667,295.
+/// Runs a day over a world up to a turn of it, so that it is seen. The first second of the view is at most `LAST_START`.
 pub fn run_in<'h, H: Clock + Eprint, W: World, F: Write + Drop>(
     rt: &'h H,
     exchange: &mut Exchange,

@@ -1,5 +1,6 @@
 //! The arguments that commands take.
 
+use bx_events::LAST_MOMENT;
 use clap::builder::ValueParser;
 use clap::{Arg, ArgAction, value_parser};
 use std::alloc::{AllocError, Global};
@@ -346,7 +347,7 @@ fn parser_of(form: Form) -> ValueParser<'static> {
         Form::Flag => ValueParser::Bool,
         Form::Number => value_parser!(u16).into(),
         Form::Port => value_parser!(u16).range(1..).into(),
-        Form::Seconds => value_parser!(u32).range(1..=300_000).into(),
+        Form::Seconds => value_parser!(u32).range(1..=i64::from(LAST_MOMENT)).into(),
         Form::Pace => value_parser!(u32).range(1..=1_000).into(),
         _ => ValueParser::String,
     }

@@ -37,9 +37,48 @@ const AFTER: &str = "Examples:
 
 Status: 0 done, 1 refused (one line on standard error says why; `bx help faults` says what each means), 2 wrong words.";
 
+/// The names of the commands.
+#[derive(Clone, Copy)]
+pub enum Name {
+    Plan,
+    Check,
+    Amend,
+    Capacity,
+    Explain,
+    Quote,
+    Chart,
+    Day,
+    Serve,
+    Far,
+    Audit,
+    Records,
+    Sold,
+    Decode,
+}
+
+/// A name as it is given.
+fn word_of<'a>(name: Name) -> &'a str {
+    match name {
+        Name::Plan => "plan",
+        Name::Check => "check",
+        Name::Amend => "amend",
+        Name::Capacity => "capacity",
+        Name::Explain => "explain",
+        Name::Quote => "quote",
+        Name::Chart => "chart",
+        Name::Day => "day",
+        Name::Serve => "serve",
+        Name::Far => "far",
+        Name::Audit => "audit",
+        Name::Records => "records",
+        Name::Sold => "sold",
+        Name::Decode => "decode",
+    }
+}
+
 /// A command: its name, its help, and its arguments in the order of the help.
 struct Words {
-    name: &'static str,
+    name: Name,
     about: &'static str,
     arguments: &'static [Argument],
 }
@@ -47,7 +86,7 @@ struct Words {
 /// The commands: those on bookings and plans, then those on days and their messages.
 static COMMANDS: [Words; 14] = [
     Words {
-        name: "plan",
+        name: Name::Plan,
         about: "Print the best plan of a day's bookings",
         arguments: &[
             Argument::Date(Day::Bookings),
@@ -57,7 +96,7 @@ static COMMANDS: [Words; 14] = [
         ],
     },
     Words {
-        name: "check",
+        name: Name::Check,
         about: "Check a plan against a day's bookings, and print `proved ` and the total",
         arguments: &[
             Argument::Date(Day::Bookings),
@@ -68,7 +107,7 @@ static COMMANDS: [Words; 14] = [
         ],
     },
     Words {
-        name: "amend",
+        name: Name::Amend,
         about: "Print the best plan that holds all that a plan accepts, for its bookings and more of the day",
         arguments: &[
             Argument::Date(Day::Bookings),
@@ -78,7 +117,7 @@ static COMMANDS: [Words; 14] = [
         ],
     },
     Words {
-        name: "capacity",
+        name: Name::Capacity,
         about: "Print what 0 to 30 channels would earn with a day's bookings, and what one more would add to each",
         arguments: &[
             Argument::Date(Day::Bookings),
@@ -87,12 +126,12 @@ static COMMANDS: [Words; 14] = [
         ],
     },
     Words {
-        name: "explain",
+        name: Name::Explain,
         about: "Print what each booking that a proved plan refuses pays, and what its seconds cost; or what one of them has to pay to be taken",
         arguments: &[Argument::Plan, Argument::Row],
     },
     Words {
-        name: "quote",
+        name: Name::Quote,
         about: "Print what a further booking has to pay to be taken beside those of a proved plan",
         arguments: &[
             Argument::Plan,
@@ -104,7 +143,7 @@ static COMMANDS: [Words; 14] = [
         ],
     },
     Words {
-        name: "chart",
+        name: Name::Chart,
         about: "Print a proved plan as a picture in SVG: what each channel carries, what is refused, and the prices; or its day as it went, by its journal",
         arguments: &[
             Argument::Plan,
@@ -114,7 +153,7 @@ static COMMANDS: [Words; 14] = [
         ],
     },
     Words {
-        name: "day",
+        name: Name::Day,
         about: "Run both ends of a proved plan's day over one TCP connection to 127.0.0.1, and print what became of each booking; may run long",
         arguments: &[
             Argument::Plan,
@@ -129,7 +168,7 @@ static COMMANDS: [Words; 14] = [
         ],
     },
     Words {
-        name: "serve",
+        name: Name::Serve,
         about: "Run the exchange's end of a proved plan's day towards the first peer, or by the clock over a data link, and print what became of each booking; may wait and run long",
         arguments: &[
             Argument::Plan,
@@ -150,7 +189,7 @@ static COMMANDS: [Words; 14] = [
         ],
     },
     Words {
-        name: "far",
+        name: Name::Far,
         about: "Run the far end of a day by a script, towards an exchange that serves, or by the clock over a data link; may wait and run long",
         arguments: &[
             Argument::Script,
@@ -166,7 +205,7 @@ static COMMANDS: [Words; 14] = [
         ],
     },
     Words {
-        name: "audit",
+        name: Name::Audit,
         about: "Print what became of each booking of a proved plan by the journal of its day, and capture that day afterwards",
         arguments: &[
             Argument::Plan,
@@ -177,7 +216,7 @@ static COMMANDS: [Words; 14] = [
         ],
     },
     Words {
-        name: "records",
+        name: Name::Records,
         about: "Print the records of a proved plan's day by its journal, as CSV for bills and spreadsheets, and their totals",
         arguments: &[
             Argument::Plan,
@@ -188,19 +227,29 @@ static COMMANDS: [Words; 14] = [
         ],
     },
     Words {
-        name: "sold",
+        name: Name::Sold,
         about: "Print the last plan of a proved plan's day by its journal: its bookings, and after them those that were sold while it ran",
         arguments: &[Argument::Plan, Argument::Journal(Journal::Read)],
     },
     Words {
-        name: "decode",
+        name: Name::Decode,
         about: "Print the type, the reference and the elements of a Q.931 message",
         arguments: &[Argument::Octets],
     },
 ];
 
+/// The name that is given so, where it is one.
+pub(crate) fn name_of_word(word: &str) -> Option<Name> {
+    for words in &COMMANDS {
+        if word_of(words.name) == word {
+            return Some(words.name);
+        }
+    }
+    None
+}
+
 fn command_of<'a>(alloc: Global, words: &Words) -> Result<Command<'a>, AllocError> {
-    let mut command = Command::new(alloc, words.name).about(words.about);
+    let mut command = Command::new(alloc, word_of(words.name)).about(words.about);
     for argument in words.arguments {
         command = command.arg(arg_of(alloc, *argument)?)?;
     }

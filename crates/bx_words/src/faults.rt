@@ -4,7 +4,7 @@
 /// for a number.
 pub const FAULTS: &str =
     "P1 BadLine n          line n of a plan has another form than the line that stands in its place, or is missing
-P2 BadCount           a plan announces more than 4,000 bookings or 8,000 prices
+P2 BadCount           a plan announces more than 16,000 bookings or 32,000 prices
 P3 OutOfLimits n      line n of a plan has the right form, and a value outside its limits
 P4 Trailing           octets follow the end of a plan
 C1 OtherBookings      the plan states other bookings, or in another order
@@ -27,7 +27,7 @@ G2 TooLong            the bookings have more than 4,194,304 octets
 G4 WriteFailed        standard output failed while the plan was written
 G5 TooManyMust t      at second t more bookings must be held than there are channels
 K1 TooManyMust t      at second t more promised and must bookings run than there are channels
-K2 TooMany            the plan and the bookings together have more than 4,000 rows
+K2 TooMany            the plan and the bookings together have more than 16,000 rows
 Q1 NoChannel t        at second t must bookings have all channels
 Q2 NoSuchRow          the plan has no row of this number
 Q3 Accepted r         the plan accepts row r
@@ -44,13 +44,13 @@ B5 OutsideDay r       a time of row r is before the day, or after its end
 B6 EndNotAfterStart r row r ends at its start, or before it
 B7 BadNumber r        the number of row r is not 1 to 15 digits
 B8 BadPay r           the pay of row r is not 1 to 1,000,000,000
-B9 TooMany            there are more than 4,000 bookings
+B9 TooMany            there are more than 16,000 bookings
 B10 BadMust r         the mark of row r is neither yes nor no
 B11 BadDirection r    the direction of row r is neither out nor in
 S1 BadHeader          the first line of the script is neither header
 S2 WrongColumns r     row r of the script has another number of fields than the header
 S3 BadEntry r         a field of row r of the script is none that may stand there
-S4 TooMany            the script has more than 4,000 rows
+S4 TooMany            the script has more than 16,000 rows
 J1 BadLine n          line n of the journal has another form than the line that stands in its place
 J2 OtherPlan          the journal is that of another plan
 J3 NotEmpty NAME      the file that is to take the journal of a new day holds something
@@ -61,7 +61,7 @@ J7 NotAFile NAME      what is to be the journal is no plain file
 J8 OtherRules         the journal was written by other rules than those of this program
 J9 BadSale            a line of the journal says that something was sold, and tells no booking
 J10 LateSale          the journal says that a booking was sold which had started by then
-J11 TooMany           the journal says that a booking was sold when the day had 4,000
+J11 TooMany           the journal says that a booking was sold when the day had 16,000
 J12 NotCarried        the journal says that a booking was sold which does not fit beside what was promised
 J13 OtherChannels     the journal says that a booking was sold by which one that had started would have changed its channel
 L1 ReadFailed         the link: a read failed

@@ -1,7 +1,7 @@
 //! What a command line asks for.
 
 use crate::channel_list::channel_numbers;
-use crate::command_line::program_of_words;
+use crate::command_line::{Name, name_of_word, program_of_words};
 use crate::faults::FAULTS;
 use crate::line_ports::ports_in;
 use bx_request::{
@@ -378,25 +378,35 @@ fn decode_request<'a>(matches: &ArgMatches<'a>) -> Request<'a> {
 /// The command that has this name and these words.
 fn request_of<'a>(
     alloc: Global,
-    name: &str,
+    name: Name,
     matches: &ArgMatches<'a>,
 ) -> Result<Request<'a>, Refusal> {
     match name {
-        "plan" => plan_request(alloc, matches),
-        "check" => check_request(alloc, matches),
-        "amend" => Ok(amend_request(matches)),
-        "capacity" => Ok(capacity_request(matches)),
-        "explain" => Ok(explain_request(matches)),
-        "quote" => Ok(quote_request(matches)),
-        "chart" => Ok(chart_request(matches)),
-        "day" => day_request(alloc, matches),
-        "serve" => serve_request(alloc, matches),
-        "far" => far_request(alloc, matches),
-        "audit" => Ok(audit_request(matches)),
-        "records" => Ok(records_request(matches)),
-        "sold" => Ok(sold_request(matches)),
-        _ => Ok(decode_request(matches)),
+        Name::Plan => plan_request(alloc, matches),
+        Name::Check => check_request(alloc, matches),
+        Name::Amend => Ok(amend_request(matches)),
+        Name::Capacity => Ok(capacity_request(matches)),
+        Name::Explain => Ok(explain_request(matches)),
+        Name::Quote => Ok(quote_request(matches)),
+        Name::Chart => Ok(chart_request(matches)),
+        Name::Day => day_request(alloc, matches),
+        Name::Serve => serve_request(alloc, matches),
+        Name::Far => far_request(alloc, matches),
+        Name::Audit => Ok(audit_request(matches)),
+        Name::Records => Ok(records_request(matches)),
+        Name::Sold => Ok(sold_request(matches)),
+        Name::Decode => Ok(decode_request(matches)),
     }
+}
+
+/// The command that was found in the words.
+fn found_request<'a>(alloc: Global, matches: &ArgMatches<'a>) -> Result<Request<'a>, Refusal> {
+    if let Some((word, found)) = matches.subcommand()
+        && let Some(name) = name_of_word(word)
+    {
+        return request_of(alloc, name, found);
+    }
+    Err(Refusal::Wrong(String::new(alloc)))
 }
 
 /// The list of faults.
@@ -426,10 +436,7 @@ pub fn read_words<'a>(alloc: Global, words: &'a [&'a str]) -> Result<Request<'a>
         ));
     }
     match program_of_words(alloc)?.try_get_matches_from(words) {
-        Ok(matches) => match matches.subcommand() {
-            Some((name, found)) => request_of(alloc, name, found),
-            None => Err(Refusal::Wrong(String::new(alloc))),
-        },
+        Ok(matches) => found_request(alloc, &matches),
         Err(error) => Err(refusal_of(alloc, error)),
     }
 }
