@@ -19,15 +19,16 @@ use Rattle.bx_lapd.specs.declared.frame.Frame.{Frame}
 use Rattle.bx_lapd.specs.declared.frame.Frame.TheVariants.{Information, Numbered, Plain}
 use Rattle.bx_lapd.specs.declared.indication.Indication.{Indication}
 use Rattle.bx_lapd.specs.declared.indication.Indication.TheVariants.{LinkReleased, Delivered, LinkError}
-use Rattle.bx_lapd.specs.Links.{Link, LinkStep, does, follows_step, is_valid, outstanding, numbered_frames, establishing, begun_link, assigned, discarded, acknowledged, is_established, is_recovering, is_link_up, sendable, acknowledges, flushes, flush}
-use Rattle.bx_lapd.specs.Table.{establish, release, takes_data, give, is_due, enquires, expires, elapse, established_anew, hear_sabme, confirmed, hear_ua, answers, took, rejects, hear_message, timed, settled, hear_number, hear_information, is_not_ready, hear_supervised, unasked, hear_numbered, link_heard, hear}
-use Rattle.bx_lapd.specs.World.{LinkWorld, EndEvent, Gives, Hears, Loses, Elapses, Asks, Releases, LinkWorldEvent, AtNear, AtFar, messages_of, near_becomes, comes, frames_lost, at_near, swapped, link_world_happens, link_world_after}
+use Rattle.bx_lapd.specs.Links.{Link, LinkStep, does, follows_step, is_valid, outstanding, numbered_frames, establishing, begun_link, assigned, discarded, acknowledged, is_established, is_recovering, is_link_up, sendable, acknowledges, flushes, flush, n200, t200, is_clear}
+use Rattle.bx_lapd.specs.Table.{establish, release, takes_data, give, is_due, enquires, expires, elapse, established_anew, hear_sabme, confirmed, hear_ua, answers, took, rejects, hear_message, timed, settled, hear_number, hear_information, is_not_ready, hear_supervised, unasked, hear_numbered, link_heard, hear, poll}
+use Rattle.bx_lapd.specs.World.{LinkWorld, EndEvent, Gives, Hears, Loses, Elapses, Asks, Releases, LinkWorldEvent, AtNear, AtFar, messages_of, near_becomes, comes, frames_lost, at_near, swapped, link_world_happens, link_world_after, Polls}
 use Rattle.bx_lapd.specs.Anew.{is_begun_by_sabme, is_begun_by_ua, begins_link_by, begins_link, renewed, near_since, since_happens, since_after, is_sabme, is_ua, frames_counted, IsTimely, IsTimelyIn, AreTimely, SameLinks, AreIdle, Anew}
+use Rattle.bx_lapd.proofs.Clear.{clear_up}
 use Rattle.bx_lapd.proofs.Media.{Confirms}
 use Rattle.bx_lapd.proofs.Flow.{Flow}
-use Rattle.bx_lapd.proofs.Sinks.{deaf_give, deaf_elapse}
+use Rattle.bx_lapd.proofs.Sinks.{deaf_give, deaf_elapse, deaf_poll}
 use Rattle.bx_lapd.proofs.Worlds.{WorldOk, ok_swapped, in_order_of}
-use Rattle.bx_lapd.proofs.Steps.{Marks, Joint, KeptTight, joint_loses, mid_flush, kept_give, kept_hear, kept_elapse}
+use Rattle.bx_lapd.proofs.Steps.{Marks, Joint, KeptTight, joint_loses, mid_flush, kept_give, kept_hear, kept_elapse, kept_poll}
 
 -- ---- frames by what they are
 
@@ -803,7 +804,7 @@ near_gives g d k e l p out back m now t = by_up (Timely g' d' k e s.link p (out 
 
 ends_expires : (st : LinkState) (l : Link) (now : ℕ) → is_link_up st ≡ true → Ends (expires st l now)
 ends_expires Established l now h = Stays refl (tt, tt)
-ends_expires TimerRecovery l now h = at (nat_lt l.rc 3)
+ends_expires TimerRecovery l now h = at (nat_lt l.rc n200)
   where
     at : (b : Bool) → Ends (if b then enquires l (l.rc + 1) now else does (establishing l false now) (Plain u.Sabme true ∷ []) (LinkError EnquiryUnanswered ∷ []))
     at true = Stays refl (tt, tt)
@@ -822,13 +823,13 @@ ends_elapse l now h = at (is_due l.timer now)
 down_expires : (g d k e : List (ArrayVec ℕ)) (st : LinkState) (l p : Link) (out back : List Frame) (now : ℕ) → l.state ≡ st → is_link_up st ≡ false → (st ≡ AwaitingEstablishment → sabmes out + uas back ≡ 0) → Timely g d k e l p out back
     → Timely g (d ++ messages_of (expires st l now).told) k e (expires st l now).link p (out ++ (expires st l now).frames) back
 down_expires g d k e Assigned l p out back now is down timely t = near_same g d k e l p out back t
-down_expires g d k e AwaitingEstablishment l p out back now is down timely t = at (nat_lt l.rc 3)
+down_expires g d k e AwaitingEstablishment l p out back now is down timely t = at (nat_lt l.rc n200)
   where
     zero : sabmes out + uas back ≡ 0
     zero = timely refl
 
     again : LinkStep
-    again = does (record l { rc = l.rc + 1; timer = T200 (now + 1000) }) (Plain u.Sabme true ∷ []) []
+    again = does (record l { rc = l.rc + 1; timer = T200 (now + t200) }) (Plain u.Sabme true ∷ []) []
 
     given_up : LinkStep
     given_up = does (discarded (assigned l)) [] (LinkError SabmeUnanswered ∷ LinkReleased ∷ [])
@@ -861,6 +862,36 @@ near_elapses g d k e l p out back now timely t = by_up (Timely g d' k e s.link p
     at : is_link_up l.state ≡ false → (b : Bool) → is_due l.timer now ≡ b → Timely g (d ++ messages_of (step b).told) k e (step b).link p (out ++ (step b).frames) back
     at down true due = down_expires g d k e l.state l p out back now refl down (λ is. timely is due) t
     at down false due = near_same g d k e l p out back t
+
+-- ---- a poll
+
+ends_poll : (l : Link) (now : ℕ) → is_link_up l.state ≡ true → Ends (poll l now)
+ends_poll l now h = at (is_clear l)
+  where
+    at : (b : Bool) → Ends (if b then enquires l 0 now else does l [] [])
+    at true = Stays refl (tt, tt)
+    at false = Stays h tt
+
+near_polls : (g d k e : List (ArrayVec ℕ)) (l p : Link) (out back : List Frame) (now : ℕ) → Timely g d k e l p out back
+    → Timely g (d ++ messages_of (poll l now).told) k e (poll l now).link p (out ++ (poll l now).frames) back
+near_polls g d k e l p out back now t = by_up (Timely g d' k e s.link p (out ++ s.frames) back) l.state
+    (λ h. near_up g d k e g d' l p out back back s h (ends_poll l now h) (rest_same back)
+    (λ up c. waits_more l s.link g g d d' out s.frames (λ x w. waiting_of g d x s (deaf_poll l now).none w.none (kept_poll g [] [] [] l fresh x [] w.n now w.tight w.joint)) (counted_uas s.frames c) (t.far.waits h))
+    (λ up far. (let o = t.both h far in both_of g d k e p out back s (kept_poll g d k e l p out back o.0 now o.2 o.1))) t)
+    (λ down. at down (is_clear l) refl)
+  where
+    s : LinkStep
+    s = poll l now
+
+    d' : List (ArrayVec ℕ)
+    d' = d ++ messages_of s.told
+
+    step : Bool → LinkStep
+    step b = if b then enquires l 0 now else does l [] []
+
+    at : is_link_up l.state ≡ false → (b : Bool) → is_clear l ≡ b → Timely g (d ++ messages_of (step b).told) k e (step b).link p (out ++ (step b).frames) back
+    at down true clear = absurd (true≢false (sym (clear_up l clear) ∙ down))
+    at down false clear = near_same g d k e l p out back t
 
 -- ---- layer 3 asks for a link
 
@@ -962,6 +993,7 @@ time_near w (Gives m now) h t = near_gives w.near_given w.near_got w.far_given w
 time_near w (Hears now) h t = time_comes w w.far_sent now refl t
 time_near w Loses h t = time_lost w w.near_sent refl t
 time_near w (Elapses now) h t = near_elapses w.near_given w.near_got w.far_given w.far_got w.near w.far w.near_sent w.far_sent now h t
+time_near w (Polls now) h t = near_polls w.near_given w.near_got w.far_given w.far_got w.near w.far w.near_sent w.far_sent now t
 time_near w (Asks now) h t = near_asks w.near_given w.near_got w.far_given w.far_got w.near.state w.near w.far w.near_sent w.far_sent now refl t
 time_near w (Releases now) h t = absurd h
 
@@ -1046,6 +1078,7 @@ recount_near w (Gives m now) g k d e = recount_of (at_near w (Gives m now)) (g +
 recount_near w (Hears now) g k d e = recount_comes w w.far_sent now (begins_link w.near.state w.far_sent) g k d e
 recount_near w Loses g k d e = recount_lost w w.near_sent g k d e
 recount_near w (Elapses now) g k d e = recount_of (at_near w (Elapses now)) g k (d ++ messages_of (elapse w.near now).told) e
+recount_near w (Polls now) g k d e = recount_of (at_near w (Polls now)) g k (d ++ messages_of (poll w.near now).told) e
 recount_near w (Asks now) g k d e = recount_of (at_near w (Asks now)) g k (d ++ messages_of (establish w.near.state w.near now).told) e
 recount_near w (Releases now) g k d e = recount_of (at_near w (Releases now)) g k (d ++ messages_of (release w.near.state w.near now).told) e
 

@@ -15,11 +15,12 @@ use Rattle.bx_lapd.specs.declared.words.ErrorCode.{ErrorCode}
 use Rattle.bx_lapd.specs.declared.words.ErrorCode.TheVariants as error
 use Rattle.bx_lapd.specs.declared.frame.Frame.{Frame}
 use Rattle.bx_lapd.specs.declared.frame.Frame.TheVariants.{Information, Numbered, Plain}
-use Rattle.bx_lapd.specs.Links.{t200, t203, Link, LinkStep, does, follows_step, ahead, outstanding, is_valid, numbered_frames, establishing, begun_link, assigned, discarded, acknowledged, is_established, is_recovering, is_link_up, acknowledges, flushes, flush}
+use Rattle.bx_lapd.specs.Links.{t200, t203, Link, LinkStep, does, follows_step, ahead, outstanding, is_valid, numbered_frames, establishing, begun_link, assigned, discarded, acknowledged, is_established, is_recovering, is_link_up, acknowledges, flushes, flush, n200, is_clear}
 use Rattle.bx_lapd.specs.declared.indication.Indication.{Indication}
 use Rattle.bx_lapd.specs.declared.indication.Indication.TheVariants.{LinkEstablished, LinkReleased, Delivered, LinkError}
 use Rattle.bx_lapd.specs.Table.{establish, release, takes_data, is_due, first_count, enquires, expires, established_anew, hear_sabme, hear_disc, confirmed, hear_ua, hear_dm, fails, hear_plain, answers, took, rejects, hear_message, timed, settled, hear_number, hear_information, is_not_ready, guided, recovered_link, hear_supervised, unasked, hear_numbered, link_heard, faulted}
 use Rattle.bx_lapd.specs.Bounds.{IsShortEnough, IsFrame, IsLink, IsBoundedStep, Within}
+use Rattle.bx_lapd.proofs.Clear.{clear_up}
 
 -- ---- lists
 
@@ -52,7 +53,7 @@ length-numbered ns nr (m ∷ ms) = ap suc (length-numbered ((ns + 1) % 128) nr m
 -- ---- links that change in other things than their numbers and queue
 
 -- the same numbers and queue, in a state that is up only where it was
-kept : (l m : Link) → m.vs ≡ l.vs → m.va ≡ l.va → m.vr ≡ l.vr → m.rc ≤ 3 → m.queue ≡ l.queue → (is_link_up m.state ≡ true → is_link_up l.state ≡ true) → IsLink l → IsLink m
+kept : (l m : Link) → m.vs ≡ l.vs → m.va ≡ l.va → m.vr ≡ l.vr → m.rc ≤ n200 → m.queue ≡ l.queue → (is_link_up m.state ≡ true → is_link_up l.state ≡ true) → IsLink l → IsLink m
 kept l m a b c d e f h = record {
   vs = omega (arith, a, h.vs);
   va = omega (arith, b, h.va);
@@ -65,7 +66,7 @@ kept l m a b c d e f h = record {
 }
 
 -- a link that is down, with this queue or none
-down : (l m : Link) → m.vs ≡ l.vs → m.va ≡ l.va → m.vr ≡ l.vr → m.rc ≤ 3 → m.queue ≡ [] → is_link_up m.state ≡ false → IsLink l → IsLink m
+down : (l m : Link) → m.vs ≡ l.vs → m.va ≡ l.va → m.vr ≡ l.vr → m.rc ≤ n200 → m.queue ≡ [] → is_link_up m.state ≡ false → IsLink l → IsLink m
 down l m a b c d e f h = record {
   vs = omega (arith, a, h.vs);
   va = omega (arith, b, h.va);
@@ -436,42 +437,46 @@ give_if : (l : Link) (m : ArrayVec ℕ) (now : ℕ) (b : Bool) → takes_data l.
 give_if l m now true e x h = step_flushed (flush now (record l { queue = l.queue ++ m ∷ [] })) (flush_within (record l { queue = l.queue ++ m ∷ [] }) now (queued_within l m (takes_room l l.state e) x h))
 give_if l m now false e x h = step_none l [] h
 
-enquires_within : (l : Link) (rc now : ℕ) → rc ≤ 3 → is_link_up l.state ≡ true → IsLink l → IsBoundedStep (enquires l rc now)
+enquires_within : (l : Link) (rc now : ℕ) → rc ≤ n200 → is_link_up l.state ≡ true → IsLink l → IsBoundedStep (enquires l rc now)
 enquires_within l rc now r up h = step_first (enquires l rc now) (first_numbered (enquires l rc now).link ReceiveReady true true l.vr [] h.vr (kept l (enquires l rc now).link refl refl refl r refl (λ x. up) h))
 
-first_few : (t : Timer) → first_count t ≤ 3
+first_few : (t : Timer) → first_count t ≤ n200
 first_few Stopped = omega arith
 first_few (T200 due) = omega arith
 first_few (T203 due) = omega arith
 
-counted : (l : Link) (now : ℕ) → nat_lt l.rc 3 ≡ true → IsLink l → IsLink (record l { rc = l.rc + 1; timer = T200 (now + t200) })
-counted l now e h = let r = ltb-true l.rc 3 e in kept l (record l { rc = l.rc + 1; timer = T200 (now + t200) }) refl refl refl (omega arith) refl (λ up. up) h
+counted : (l : Link) (now : ℕ) → nat_lt l.rc n200 ≡ true → IsLink l → IsLink (record l { rc = l.rc + 1; timer = T200 (now + t200) })
+counted l now e h = let r = ltb-true l.rc n200 e in kept l (record l { rc = l.rc + 1; timer = T200 (now + t200) }) refl refl refl (omega arith) refl (λ up. up) h
 
-sabme_again : (l : Link) (now : ℕ) (b : Bool) → nat_lt l.rc 3 ≡ b → IsLink l
+sabme_again : (l : Link) (now : ℕ) (b : Bool) → nat_lt l.rc n200 ≡ b → IsLink l
     → IsBoundedStep (if b then does (record l { rc = l.rc + 1; timer = T200 (now + t200) }) (Plain u.Sabme true ∷ []) [] else does (discarded (assigned l)) [] (LinkError error.SabmeUnanswered ∷ LinkReleased ∷ []))
 sabme_again l now true e h = step_plain (record l { rc = l.rc + 1; timer = T200 (now + t200) }) u.Sabme true [] (counted l now e h)
 sabme_again l now false e h = step_none (discarded (assigned l)) (LinkError error.SabmeUnanswered ∷ LinkReleased ∷ []) (assigned_empty l h)
 
-disc_again : (l : Link) (now : ℕ) (b : Bool) → nat_lt l.rc 3 ≡ b → IsLink l
+disc_again : (l : Link) (now : ℕ) (b : Bool) → nat_lt l.rc n200 ≡ b → IsLink l
     → IsBoundedStep (if b then does (record l { rc = l.rc + 1; timer = T200 (now + t200) }) (Plain u.Disc true ∷ []) [] else does (assigned l) [] (LinkError error.DiscUnanswered ∷ LinkReleased ∷ []))
 disc_again l now true e h = step_plain (record l { rc = l.rc + 1; timer = T200 (now + t200) }) u.Disc true [] (counted l now e h)
 disc_again l now false e h = step_none (assigned l) (LinkError error.DiscUnanswered ∷ LinkReleased ∷ []) (assigned_within l h)
 
-asks_again : (l : Link) (now : ℕ) (b : Bool) → nat_lt l.rc 3 ≡ b → is_link_up l.state ≡ true → IsLink l
+asks_again : (l : Link) (now : ℕ) (b : Bool) → nat_lt l.rc n200 ≡ b → is_link_up l.state ≡ true → IsLink l
     → IsBoundedStep (if b then enquires l (l.rc + 1) now else does (establishing l false now) (Plain u.Sabme true ∷ []) (LinkError error.EnquiryUnanswered ∷ []))
-asks_again l now true e up h = let r = ltb-true l.rc 3 e in enquires_within l (l.rc + 1) now (omega arith) up h
+asks_again l now true e up h = let r = ltb-true l.rc n200 e in enquires_within l (l.rc + 1) now (omega arith) up h
 asks_again l now false e up h = step_first (does (establishing l false now) (Plain u.Sabme true ∷ []) (LinkError error.EnquiryUnanswered ∷ [])) (sabme_goes l false (LinkError error.EnquiryUnanswered ∷ []) now h)
 
 expires_within : (l : Link) (st : LinkState) (now : ℕ) → l.state ≡ st → IsLink l → IsBoundedStep (expires st l now)
 expires_within l Assigned now e h = step_none l [] h
-expires_within l AwaitingEstablishment now e h = sabme_again l now (nat_lt l.rc 3) refl h
-expires_within l AwaitingRelease now e h = disc_again l now (nat_lt l.rc 3) refl h
+expires_within l AwaitingEstablishment now e h = sabme_again l now (nat_lt l.rc n200) refl h
+expires_within l AwaitingRelease now e h = disc_again l now (nat_lt l.rc n200) refl h
 expires_within l Established now e h = enquires_within l (first_count l.timer) now (first_few l.timer) (ap is_link_up e) h
-expires_within l TimerRecovery now e h = asks_again l now (nat_lt l.rc 3) refl (ap is_link_up e) h
+expires_within l TimerRecovery now e h = asks_again l now (nat_lt l.rc n200) refl (ap is_link_up e) h
 
 elapse_if : (l : Link) (now : ℕ) (b : Bool) → IsLink l → IsBoundedStep (if b then expires l.state l now else does l [] [])
 elapse_if l now true h = expires_within l l.state now refl h
 elapse_if l now false h = step_none l [] h
+
+poll_if : (l : Link) (now : ℕ) (b : Bool) → is_clear l ≡ b → IsLink l → IsBoundedStep (if b then enquires l 0 now else does l [] [])
+poll_if l now true e h = enquires_within l 0 now (omega arith) (clear_up l e) h
+poll_if l now false e h = step_none l [] h
 
 pub within : Within
 within l now h = record {
@@ -479,6 +484,7 @@ within l now h = record {
   release = release_within l l.state now h;
   give = λ m x. give_if l m now (takes_data l.state l) refl x h;
   elapse = elapse_if l now (is_due l.timer now) h;
+  poll = poll_if l now (is_clear l) refl h;
   hear = λ f x. flushed_step (link_heard l f now) now (heard_within l f now x h);
   hear_fault = λ code. step_first (faulted (is_link_up l.state) l code now) (fault_within l (is_link_up l.state) code now h);
 }

@@ -12,8 +12,8 @@ use Rattle.bx_lapd.specs.declared.words.ErrorCode.{ErrorCode}
 use Rattle.bx_lapd.specs.declared.frame.Frame.TheVariants.{Information, Numbered, Plain}
 use Rattle.bx_lapd.specs.declared.indication.Indication.{Indication}
 use Rattle.bx_lapd.specs.declared.indication.Indication.TheVariants.{Delivered}
-use Rattle.bx_lapd.specs.Links.{Link, LinkStep, does, follows_step, is_valid, acknowledged, is_established, is_recovering, is_link_up, sendable, acknowledges, flushes, flush}
-use Rattle.bx_lapd.specs.Table.{establish, release, takes_data, give, is_due, expires, elapse, established_anew, hear_sabme, hear_disc, confirmed, hear_ua, hear_dm, fails, hear_plain, answers, took, rejects, hear_message, timed, settled, hear_number, hear_information, is_not_ready, guided, recovered_link, hear_supervised, unasked, hear_numbered, link_heard, hear}
+use Rattle.bx_lapd.specs.Links.{Link, LinkStep, does, follows_step, is_valid, acknowledged, is_established, is_recovering, is_link_up, sendable, acknowledges, flushes, flush, n200, is_clear}
+use Rattle.bx_lapd.specs.Table.{establish, release, takes_data, give, is_due, expires, elapse, established_anew, hear_sabme, hear_disc, confirmed, hear_ua, hear_dm, fails, hear_plain, answers, took, rejects, hear_message, timed, settled, hear_number, hear_information, is_not_ready, guided, recovered_link, hear_supervised, unasked, hear_numbered, link_heard, hear, poll, enquires}
 use Rattle.bx_lapd.specs.World.{messages_of}
 use Rattle.bx_lapd.proofs.Steps.{messages_of-append}
 
@@ -246,10 +246,13 @@ deaf_either l false s t d e = e
 
 deaf_expires : (st : LinkState) (l : Link) (now : ℕ) → Deaf l (expires st l now)
 deaf_expires Assigned l now = record { vr = refl; none = refl }
-deaf_expires AwaitingEstablishment l now = deaf_either l (nat_lt l.rc 3) _ _ (record { vr = refl; none = refl }) (record { vr = refl; none = refl })
-deaf_expires AwaitingRelease l now = deaf_either l (nat_lt l.rc 3) _ _ (record { vr = refl; none = refl }) (record { vr = refl; none = refl })
+deaf_expires AwaitingEstablishment l now = deaf_either l (nat_lt l.rc n200) _ _ (record { vr = refl; none = refl }) (record { vr = refl; none = refl })
+deaf_expires AwaitingRelease l now = deaf_either l (nat_lt l.rc n200) _ _ (record { vr = refl; none = refl }) (record { vr = refl; none = refl })
 deaf_expires Established l now = record { vr = refl; none = refl }
-deaf_expires TimerRecovery l now = deaf_either l (nat_lt l.rc 3) _ _ (record { vr = refl; none = refl }) (record { vr = refl; none = refl })
+deaf_expires TimerRecovery l now = deaf_either l (nat_lt l.rc n200) _ _ (record { vr = refl; none = refl }) (record { vr = refl; none = refl })
 
 pub deaf_elapse : (l : Link) (now : ℕ) → Deaf l (elapse l now)
 deaf_elapse l now = deaf_if l (is_due l.timer now) (expires l.state l now) (deaf_expires l.state l now)
+
+pub deaf_poll : (l : Link) (now : ℕ) → Deaf l (poll l now)
+deaf_poll l now = deaf_if l (is_clear l) (enquires l 0 now) (record { vr = refl; none = refl })

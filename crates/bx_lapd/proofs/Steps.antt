@@ -10,10 +10,10 @@ use Rattle.bx_lapd.specs.declared.words.Unnumbered.TheVariants.{Sabme}
 use Rattle.bx_lapd.specs.declared.words.ErrorCode.TheVariants.{EnquiryUnanswered}
 use Rattle.bx_lapd.specs.declared.frame.Frame.{Frame}
 use Rattle.bx_lapd.specs.declared.frame.Frame.TheVariants.{Information, Numbered, Plain}
-use Rattle.bx_lapd.specs.Links.{Link, LinkStep, does, follows_step, ahead, outstanding, is_valid, final, enquiry, numbered_frames, establishing, acknowledged, is_established, is_recovering, is_link_up, acknowledges, flushes, flush}
+use Rattle.bx_lapd.specs.Links.{Link, LinkStep, does, follows_step, ahead, outstanding, is_valid, final, enquiry, numbered_frames, establishing, acknowledged, is_established, is_recovering, is_link_up, acknowledges, flushes, flush, n200, is_clear}
 use Rattle.bx_lapd.specs.declared.indication.Indication.{Indication}
 use Rattle.bx_lapd.specs.declared.indication.Indication.TheVariants.{LinkEstablished, LinkReleased, Delivered, LinkError}
-use Rattle.bx_lapd.specs.Table.{takes_data, give, is_due, first_count, enquires, expires, elapse, answers, took, rejects, hear_message, timed, settled, hear_number, hear_information, is_not_ready, guided, recovered_link, hear_supervised, unasked, hear_numbered, link_heard, hear}
+use Rattle.bx_lapd.specs.Table.{takes_data, give, is_due, first_count, enquires, expires, elapse, answers, took, rejects, hear_message, timed, settled, hear_number, hear_information, is_not_ready, guided, recovered_link, hear_supervised, unasked, hear_numbered, link_heard, hear, poll}
 use Rattle.bx_lapd.specs.World.{messages_of}
 use Rattle.bx_lapd.proofs.Numbers.{same_number}
 use Rattle.bx_lapd.proofs.Media.{message_at, Stand, stand_drop, comes_less, comes_within, comes_numbered_frame, Confirms, confirms_less, confirms_within, confirms_numbered_frame, confirms_numbered}
@@ -336,7 +336,7 @@ kept_asks g d k e l p forth back n false now u t j = absurd (false≢true u)
 
 kept_expires : (g d k e : List (ArrayVec ℕ)) (l p : Link) (forth back : List Frame) (n : Marks) (st : LinkState) (now : ℕ) → is_link_up st ≡ true → is_link_up (expires st l now).link.state ≡ true → n.s ≡ n.h → Joint g d k e l p forth back n → KeptTight g d k e p forth back (expires st l now)
 kept_expires g d k e l p forth back n Established now v u t j = kept_enquires g d k e l p forth back n (first_count l.timer) now t j
-kept_expires g d k e l p forth back n TimerRecovery now v u t j = kept_asks g d k e l p forth back n (nat_lt l.rc 3) now u t j
+kept_expires g d k e l p forth back n TimerRecovery now v u t j = kept_asks g d k e l p forth back n (nat_lt l.rc n200) now u t j
 kept_expires g d k e l p forth back n Assigned now v u t j = absurd (false≢true v)
 kept_expires g d k e l p forth back n AwaitingEstablishment now v u t j = absurd (false≢true v)
 kept_expires g d k e l p forth back n AwaitingRelease now v u t j = absurd (false≢true v)
@@ -348,6 +348,13 @@ elapse_if g d k e l p forth back n false now v u t j = (n, mid_same g d k e l p 
 
 pub kept_elapse : (g d k e : List (ArrayVec ℕ)) (l p : Link) (forth back : List Frame) (n : Marks) (now : ℕ) → is_link_up l.state ≡ true → is_link_up (elapse l now).link.state ≡ true → n.s ≡ n.h → Joint g d k e l p forth back n → KeptTight g d k e p forth back (elapse l now)
 kept_elapse g d k e l p forth back n now v u t j = elapse_if g d k e l p forth back n (is_due l.timer now) now v u t j
+
+poll_if : (g d k e : List (ArrayVec ℕ)) (l p : Link) (forth back : List Frame) (n : Marks) (b : Bool) (now : ℕ) → n.s ≡ n.h → Joint g d k e l p forth back n → KeptTight g d k e p forth back (if b then enquires l 0 now else does l [] [])
+poll_if g d k e l p forth back n true now t j = kept_enquires g d k e l p forth back n 0 now t j
+poll_if g d k e l p forth back n false now t j = (n, mid_same g d k e l p forth back n j, t)
+
+pub kept_poll : (g d k e : List (ArrayVec ℕ)) (l p : Link) (forth back : List Frame) (n : Marks) (now : ℕ) → n.s ≡ n.h → Joint g d k e l p forth back n → KeptTight g d k e p forth back (poll l now)
+kept_poll g d k e l p forth back n now t j = poll_if g d k e l p forth back n (is_clear l) now t j
 
 -- ---- a frame that is lost
 

@@ -7,12 +7,12 @@ use Rattle.bx_lapd.specs.Links.{Link, LinkStep, outstanding, is_link_up}
 use Rattle.std.proofs.lemmas.Bool.{false≢true}
 use Rattle.bx_lapd.specs.declared.words.LinkState.{LinkState}
 use Rattle.bx_lapd.specs.declared.words.LinkState.TheVariants.{Assigned, AwaitingEstablishment, AwaitingRelease, Established, TimerRecovery}
-use Rattle.bx_lapd.specs.Table.{establish, release, takes_data, give, hear, elapse}
-use Rattle.bx_lapd.specs.World.{LinkWorld, EndEvent, Gives, Hears, Loses, Elapses, Asks, Releases, LinkWorldEvent, AtNear, AtFar, near_becomes, comes, frames_lost, at_near, swapped, link_world_happens, link_world_after}
+use Rattle.bx_lapd.specs.Table.{establish, release, takes_data, give, hear, elapse, poll}
+use Rattle.bx_lapd.specs.World.{LinkWorld, EndEvent, Gives, Hears, Loses, Elapses, Asks, Releases, LinkWorldEvent, AtNear, AtFar, near_becomes, comes, frames_lost, at_near, swapped, link_world_happens, link_world_after, Polls}
 use Rattle.bx_lapd.specs.Law.{IsJustEstablished, IsLinkOpening, StaysUp, IsFirstValid, IsInOrder, InOrder}
 use Rattle.bx_lapd.proofs.Media.{Comes, comes_within, Confirms, confirms_within}
 use Rattle.bx_lapd.proofs.Flow.{Flow, flow_outstanding}
-use Rattle.bx_lapd.proofs.Steps.{Marks, Joint, KeptTight, joint_valid, joint_loses, kept_give, kept_hear, kept_elapse}
+use Rattle.bx_lapd.proofs.Steps.{Marks, Joint, KeptTight, joint_valid, joint_loses, kept_give, kept_hear, kept_elapse, kept_poll}
 
 pub record WorldOk (w : LinkWorld) : Type 0 where
   pub n : Marks
@@ -69,6 +69,8 @@ ok_near w (Hears now) u v o = ok_comes w w.far_sent now refl u o
 ok_near w Loses u v o = ok_lost w w.near_sent refl o
 ok_near w (Elapses now) u v o =
     ok_becomes w (elapse w.near now) (kept_elapse w.near_given w.near_got w.far_given w.far_got w.near w.far w.near_sent w.far_sent o.n now u v o.tight o.joint)
+ok_near w (Polls now) u v o =
+    ok_becomes w (poll w.near now) (kept_poll w.near_given w.near_got w.far_given w.far_got w.near w.far w.near_sent w.far_sent o.n now o.tight o.joint)
 ok_near w (Asks now) u v o = absurd (asks_down w.near now w.near.state u v)
 ok_near w (Releases now) u v o = absurd (releases_down w.near now w.near.state u v)
 

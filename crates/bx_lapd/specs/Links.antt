@@ -3,7 +3,7 @@
 -- The queue holds each message that was given and is not acknowledged. The first (V(S) - V(A)) modulo 128 of them were sent: so to go
 -- back N is to set V(S) to V(A), and an acknowledgement takes messages from the start. What comes is delivered at once, so there is
 -- no own receiver busy condition.
-use Rattle.std.specs.Prelude.{◌≡◌, ℕ, ◌+◌, ◌-◌, ◌%◌, nat_le, ◌&&◌, not, Bool, true, false, List, [], ◌∷◌, ◌++◌, length, take, drop, if◌then◌else◌}
+use Rattle.std.specs.Prelude.{◌≡◌, ℕ, ◌+◌, ◌-◌, ◌%◌, ◌==◌, nat_le, ◌&&◌, not, Bool, true, false, List, [], ◌∷◌, ◌++◌, length, take, drop, if◌then◌else◌}
 use Rattle.arrayvec.specs.ArrayVec.{ArrayVec}
 use Rattle.bx_lapd.specs.declared.words.LinkState.{LinkState}
 use Rattle.bx_lapd.specs.declared.words.LinkState.TheVariants.{Assigned, AwaitingEstablishment, Established, TimerRecovery}
@@ -17,12 +17,16 @@ use Rattle.bx_lapd.specs.declared.indication.Indication.TheVariants.{LinkError}
 use Rattle.bx_lapd.specs.declared.frame.Frame.{Frame}
 use Rattle.bx_lapd.specs.declared.frame.Frame.TheVariants.{Information, Numbered, Plain}
 
--- T200 and T203 in milliseconds (5.9)
+-- T200 and T203 in milliseconds, and N200 (5.9). Profile: T200 is 150 ms and N200 is 20, where Q.921 has 1 s and 3 as defaults, so that a
+-- frame that is lost is sent again several times within a second, and a link is given up after 3 s as there
 abbrev pub t200 : ℕ
-t200 = 1000
+t200 = 150
 
 abbrev pub t203 : ℕ
 t203 = 10000
+
+abbrev pub n200 : ℕ
+n200 = 20
 
 pub record Link : Type 0 where
   pub state : LinkState
@@ -146,6 +150,10 @@ is_established _ = false
 abbrev pub is_recovering : LinkState → Bool
 is_recovering TimerRecovery = true
 is_recovering _ = false
+
+-- state 7, and nothing that was given is unacknowledged
+abbrev pub is_clear : Link → Bool
+is_clear l = is_established l.state && (length l.queue == 0)
 
 -- states 7 and 8
 abbrev pub is_link_up : LinkState → Bool

@@ -13,7 +13,7 @@ use Rattle.bx_lapd.specs.declared.words.ErrorCode.{ErrorCode}
 use Rattle.bx_lapd.specs.declared.words.ErrorCode.TheVariants as error
 use Rattle.bx_lapd.specs.declared.frame.Frame.{Frame}
 use Rattle.bx_lapd.specs.declared.frame.Frame.TheVariants.{Information, Numbered, Plain}
-use Rattle.bx_lapd.specs.Links.{t200, t203, Link, LinkStep, does, follows_step, is_valid, final, enquiry, establishing, establishes, begun_link, assigned, discarded, acknowledged, wrong_number, is_established, is_recovering, is_link_up, flush}
+use Rattle.bx_lapd.specs.Links.{t200, t203, n200, Link, LinkStep, does, follows_step, is_valid, final, enquiry, establishing, establishes, begun_link, assigned, discarded, acknowledged, wrong_number, is_established, is_recovering, is_clear, is_link_up, flush}
 use Rattle.bx_lapd.specs.declared.indication.Indication.{Indication}
 use Rattle.bx_lapd.specs.declared.indication.Indication.TheVariants.{LinkEstablished, LinkReleased, Delivered, LinkError}
 
@@ -61,22 +61,27 @@ first_count _ = 0
 abbrev pub enquires : Link → ℕ → ℕ → LinkStep
 enquires l rc now = does (record l { state = TimerRecovery; rc = rc; owed = false; timer = T200 (now + t200) }) (enquiry l ∷ []) []
 
--- a timer is due; N200 is 3
+-- a timer is due
 abbrev pub expires : LinkState → Link → ℕ → LinkStep
 expires Assigned l now = does l [] []
 expires AwaitingEstablishment l now =
-    if nat_lt l.rc 3 then does (record l { rc = l.rc + 1; timer = T200 (now + t200) }) (Plain u.Sabme true ∷ []) []
+    if nat_lt l.rc n200 then does (record l { rc = l.rc + 1; timer = T200 (now + t200) }) (Plain u.Sabme true ∷ []) []
     else does (discarded (assigned l)) [] (LinkError error.SabmeUnanswered ∷ LinkReleased ∷ [])
 expires AwaitingRelease l now =
-    if nat_lt l.rc 3 then does (record l { rc = l.rc + 1; timer = T200 (now + t200) }) (Plain u.Disc true ∷ []) []
+    if nat_lt l.rc n200 then does (record l { rc = l.rc + 1; timer = T200 (now + t200) }) (Plain u.Disc true ∷ []) []
     else does (assigned l) [] (LinkError error.DiscUnanswered ∷ LinkReleased ∷ [])
 expires Established l now = enquires l (first_count l.timer) now
 expires TimerRecovery l now =
-    if nat_lt l.rc 3 then enquires l (l.rc + 1) now
+    if nat_lt l.rc n200 then enquires l (l.rc + 1) now
     else does (establishing l false now) (Plain u.Sabme true ∷ []) (LinkError error.EnquiryUnanswered ∷ [])
 
 abbrev pub elapse : Link → ℕ → LinkStep
 elapse l now = if is_due l.timer now then expires l.state l now else does l [] []
+
+-- The other end is asked whether it is there, where nothing is unacknowledged: the row of T203 in state 7 (5.10), at an instant of layer
+-- 3's choice. The link is in state 7 again when it has answered
+abbrev pub poll : Link → ℕ → LinkStep
+poll l now = if is_clear l then enquires l 0 now else does l [] []
 
 -- ---- unnumbered frames
 

@@ -1,13 +1,13 @@
 -- The world of two ends of a link: between them a medium that is first-in-first-out in each direction, delays without bound, and may
 -- lose any frame. An event is one of either end: layer 3 gives a message, the first frame on the way to it comes, the first frame that
--- it sent and that has not come is lost, time has gone by to an instant, or layer 3 asks for an establishment or a release.
+-- it sent and that has not come is lost, time has gone by to an instant, or layer 3 asks for a poll, an establishment or a release.
 use Rattle.std.specs.Prelude.{ℕ, List, [], ◌∷◌, ◌++◌, if◌then◌else◌}
 use Rattle.arrayvec.specs.ArrayVec.{ArrayVec}
 use Rattle.bx_lapd.specs.declared.frame.Frame.{Frame}
 use Rattle.bx_lapd.specs.Links.{Link, LinkStep}
 use Rattle.bx_lapd.specs.declared.indication.Indication.{Indication}
 use Rattle.bx_lapd.specs.declared.indication.Indication.TheVariants.{LinkEstablished, LinkReleased, Delivered, LinkError}
-use Rattle.bx_lapd.specs.Table.{establish, release, takes_data, give, hear, elapse}
+use Rattle.bx_lapd.specs.Table.{establish, release, takes_data, give, hear, elapse, poll}
 
 pub record LinkWorld : Type 0 where
   pub near : Link
@@ -26,6 +26,7 @@ pub data EndEvent : Type 0 where
   Hears : (now : ℕ) → EndEvent
   Loses : EndEvent
   Elapses : (now : ℕ) → EndEvent
+  Polls : (now : ℕ) → EndEvent
   Asks : (now : ℕ) → EndEvent
   Releases : (now : ℕ) → EndEvent
 
@@ -57,6 +58,7 @@ at_near w (Gives m now) = near_becomes (record w { near_given = w.near_given ++ 
 at_near w (Hears now) = comes w w.far_sent now
 at_near w Loses = frames_lost w w.near_sent
 at_near w (Elapses now) = near_becomes w (elapse w.near now)
+at_near w (Polls now) = near_becomes w (poll w.near now)
 at_near w (Asks now) = near_becomes w (establish w.near.state w.near now)
 at_near w (Releases now) = near_becomes w (release w.near.state w.near now)
 

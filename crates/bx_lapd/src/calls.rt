@@ -2,8 +2,8 @@
 
 ghost use Rattle.std.specs.Prelude.{◌≡◌, ◌<◌, ◌≤◌, ◌^◌, ◌+◌, length, [], true};
 ghost use Rattle.bx_lapd.specs.Rows.{IsRow};
-ghost use Rattle.bx_lapd.specs.Links.{Makes};
-ghost use Rattle.bx_lapd.specs.Table.{establish, release, takes_data, give, is_due, due_of, enquires, expires, elapse, link_heard, hear, hear_fault};
+ghost use Rattle.bx_lapd.specs.Links.{t200, n200, is_clear, Makes};
+ghost use Rattle.bx_lapd.specs.Table.{establish, release, takes_data, give, is_due, due_of, enquires, expires, elapse, poll, link_heard, hear, hear_fault};
 
 use crate::data_link::{DataLink, T200};
 use crate::done::Done;
@@ -13,7 +13,8 @@ use crate::row::{Row, numbered, plain, quiet, tells};
 use crate::words::{ErrorCode, LinkState, Supervisory, Timer, Unnumbered};
 use bx_q931::Octets;
 
-const N200: u8 = 3;
+/// How often a frame is sent again without an answer (5.9). Profile: 3 by default there.
+const N200: u8 = 20;
 
 impl DataLink {
     /// DL-ESTABLISH request: SABME goes out, and what was given before is discarded.
@@ -89,6 +90,13 @@ impl DataLink {
         }
     }
 
+    /// Whether the link is up in state 7, and nothing that was given is unacknowledged.
+    pub fn is_clear(&self) -> bool
+        ensures { result ≡ is_clear self.now }
+    {
+        self.is_established() && self.queue.is_empty()
+    }
+
     /// DL-DATA request. A message that the link does not take is dropped: `takes` says it before.
     pub fn give(&mut self, message: Octets, now: u64) -> Done
         requires { now < 2 ^ 62 }
@@ -110,6 +118,20 @@ impl DataLink {
         let mut out = Done::new();
         if self.is_due(now) {
             let row = self.expire(now);
+            out.add(row);
+        }
+        out
+    }
+
+    /// Asks the other end whether it is there, by RR with P = 1, where nothing that was given is unacknowledged: what T203 does when it is due
+    /// (ITU-T Q.921, 5.10), at an instant of the caller's choice. Until the other end has answered the link is not clear (`is_clear`).
+    pub fn poll(&mut self, now: u64) -> Done
+        requires { now < 2 ^ 62 }
+        ensures { Makes (poll self.old now) self.new result }
+    {
+        let mut out = Done::new();
+        if self.is_clear() {
+            let row = self.enquire(0, now);
             out.add(row);
         }
         out
@@ -149,8 +171,8 @@ impl DataLink {
     /// An unnumbered command goes out once more.
     fn again(&mut self, kind: Unnumbered, now: u64) -> Row
         requires now { now < 2 ^ 62 }
-        requires count { self.old.rc < 3 }
-        ensures link { self.new ≡ record self.old { rc = self.old.rc + 1; timer = Timer.T200 (now + 1000) } }
+        requires count { self.old.rc < n200 }
+        ensures link { self.new ≡ record self.old { rc = self.old.rc + 1; timer = Timer.T200 (now + t200) } }
         ensures row { result ≡ record { frame = Some (Frame.Plain kind true); first = None; second = None } }
     {
         self.rc += 1;

@@ -9,8 +9,8 @@ use arrayvec::ArrayVec;
 use bx_q931::Octets;
 use std::marker::Model;
 
-/// T200 and T203 in milliseconds (5.9).
-pub(crate) const T200: u64 = 1000;
+/// T200 and T203 in milliseconds (5.9). Profile: T200 is 1 s by default there.
+pub(crate) const T200: u64 = 150;
 
 pub(crate) const T203: u64 = 10000;
 

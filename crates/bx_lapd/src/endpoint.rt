@@ -2,8 +2,8 @@
 
 ghost use Rattle.std.specs.Prelude.{◌≡◌, ◌+◌, ◌<◌, ◌≤◌, ◌^◌, [], min, length};
 ghost use Rattle.bx_q931.specs.declared.reading.TheConstants.{MAX_MESSAGE};
-ghost use Rattle.bx_lapd.specs.Links.{Makes, is_link_up};
-ghost use Rattle.bx_lapd.specs.Table.{establish, release, takes_data, give, elapse, due_of};
+ghost use Rattle.bx_lapd.specs.Links.{Makes, is_clear, is_link_up};
+ghost use Rattle.bx_lapd.specs.Table.{establish, release, takes_data, give, elapse, poll, due_of};
 ghost use Rattle.bx_lapd.specs.Codec.{read_octets};
 ghost use Rattle.bx_lapd.specs.Endpoints.{hear_octets, is_dropped};
 ghost use Rattle.bx_lapd.specs.Once.{IsUnlinked};
@@ -109,6 +109,23 @@ impl Endpoint {
         ensures stays { (self.new.network ≡ self.old.network) × (self.new.dropped ≡ self.old.dropped) }
     {
         self.link.give(message, now)
+    }
+
+    /// Whether the link is up in state 7, and nothing that was given is unacknowledged.
+    pub fn is_clear(&self) -> bool
+        ensures { result ≡ is_clear self.now.link }
+    {
+        self.link.is_clear()
+    }
+
+    /// Asks the other end whether it is there, by RR with P = 1, where the link is clear (ITU-T Q.921, 5.10). It is clear again when the
+    /// other end has answered.
+    pub fn poll(&mut self, now: u64) -> Done
+        requires { now < 2 ^ 62 }
+        ensures step { Makes (poll self.old.link now) self.new.link result }
+        ensures stays { (self.new.network ≡ self.old.network) × (self.new.dropped ≡ self.old.dropped) }
+    {
+        self.link.poll(now)
     }
 
     /// Time has gone by to this instant.

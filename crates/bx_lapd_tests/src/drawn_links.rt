@@ -10,7 +10,7 @@ const LINKS: u32 = 240;
 
 /// How much time goes by between two events.
 static DELAYS: [u32; 16] = [
-    0, 0, 0, 0, 1, 20, 20, 20, 20, 100, 100, 200, 500, 999, 1000, 10_000,
+    0, 0, 0, 0, 1, 20, 20, 20, 20, 100, 100, 149, 150, 500, 1000, 10_000,
 ];
 
 /// The oldest frame that is on its way.
@@ -47,12 +47,21 @@ fn comes(drawn: &mut Drawn, this: &mut Pair, other: &mut Pair, now: u32) {
     }
 }
 
+/// Nothing comes for so long that a command is given up.
+fn waits(this: &mut Pair, now: u32) {
+    for tried in 0..22u32 {
+        this.elapses(now.wrapping_add(tried.wrapping_mul(150)));
+    }
+}
+
 /// What an end does of itself.
 fn acts(drawn: &mut Drawn, this: &mut Pair, now: u32) {
     match drawn.below(40) {
         0..=2 => this.establishes(now),
         3 => this.releases(now),
-        4..=16 => this.elapses(now),
+        4 => waits(this, now),
+        5..=8 => this.polls(now),
+        9..=16 => this.elapses(now),
         _ => {
             let number = drawn.below(65_536);
             this.gives(number, now);

@@ -97,6 +97,7 @@ impl Pair {
             )
             && self.end.is_up() == second.is_up()
             && self.end.takes() == second.takes()
+            && self.end.is_clear() == second.is_clear()
             && self.end.due() == second.due()
             && self.end.dropped() == second.dropped
     }
@@ -134,6 +135,13 @@ impl Pair {
         let now = u64::from(now);
         self.second.elapse(now);
         let done = self.end.elapse(now);
+        self.compares(&done);
+    }
+
+    pub(crate) fn polls(&mut self, now: u32) {
+        let now = u64::from(now);
+        self.second.poll(now);
+        let done = self.end.poll(now);
         self.compares(&done);
     }
 
@@ -176,7 +184,7 @@ pub(crate) fn in_state(network: bool, state: u8) -> Pair {
         pair.gives(number, 0);
     }
     if state == 8 {
-        pair.elapses(1000);
+        pair.elapses(150);
     }
     pair
 }

@@ -113,7 +113,7 @@ impl Second {
     }
 
     pub(crate) fn start_t200(&mut self, now: u64) {
-        self.t200 = Some(now.wrapping_add(1000));
+        self.t200 = Some(now.wrapping_add(150));
         self.t203 = None;
     }
 
@@ -241,9 +241,21 @@ impl Second {
         }
     }
 
+    /// Whether nothing that was given is unacknowledged, in state 7.
+    pub(crate) fn is_clear(&self) -> bool {
+        self.state == 7 && self.kept.is_empty()
+    }
+
+    pub(crate) fn poll(&mut self, now: u64) {
+        self.turns();
+        if self.is_clear() {
+            self.enquire(0, now);
+        }
+    }
+
     /// A command that was not answered.
     fn repeats(&mut self, now: u64) {
-        if self.rc < 3 {
+        if self.rc < 20 {
             self.rc += 1;
             self.start_t200(now);
             self.unnumbered(if self.state == 5 { SABME } else { DISC }, true);
@@ -265,7 +277,7 @@ impl Second {
         match self.state {
             5 | 6 => self.repeats(now),
             7 => self.enquires(now),
-            8 if self.rc < 3 => self.enquire(self.rc.wrapping_add(1), now),
+            8 if self.rc < 20 => self.enquire(self.rc.wrapping_add(1), now),
             8 => {
                 self.tell(b'I');
                 self.ask(false, now);

@@ -1,7 +1,6 @@
 -- A line that has lost something tells the day, whatever is served before: so the next second that is not late has no link.
 use Rattle.std.proofs.Common.{◌≡◌, ℕ, zero, suc, ◌≤◌, arith, Bool, false, true, true≢false, not, ◌&&◌, List, [], ◌∷◌, refl, sym, ap, ◌∙◌, subst}
 use Rattle.arrayvec.specs.ArrayVec.{ArrayVec}
-use Rattle.bx_lapd.specs.Links.{is_link_up}
 use Rattle.bx_lapd.specs.declared.indication.Indication.{Indication}
 use Rattle.bx_lapd.specs.declared.indication.Indication.TheVariants.{Delivered, LinkError}
 use Rattle.bx_live.specs.declared.world.Begin.TheVariants.{Joined}
@@ -9,8 +8,9 @@ use Rattle.bx_live.specs.Acts.{Act, Began}
 use Rattle.bx_live.specs.Chains.{Chain, chain_first}
 use Rattle.bx_line_world.specs.Wires.{WireAct}
 use Rattle.bx_line_world.specs.Posts.{is_anew, is_lost, post_from, reset, put, told_to, all_told_to}
-use Rattle.bx_line_world.specs.Lines.{LineEvent, Serves, step_of}
+use Rattle.bx_line_world.specs.Lines.{LineEvent, Elapsed, Serves, step_of}
 use Rattle.bx_line_world.specs.Serving.{Slice, Served, AsksLink}
+use Rattle.bx_line_world.specs.Seeing.{is_seen, is_to_ask, is_on_the_second, asked_anew, AsksEnd, Looked, Sees}
 use Rattle.bx_line_world.specs.Days.{GoesByLine, Begins}
 use Rattle.bx_line_world.specs.Laws.{BeginsApart}
 use Rattle.bx_line_world.specs.declared.line.Line.{Line}
@@ -60,9 +60,27 @@ module _ {W : Type 0} (did : W → List WireAct → W → Type 0) where
   served_lost : (until : ℕ) (in_turn : Bool) (s t : Line W) → Served did until in_turn s t → is_lost s.post.lost ≡ true → is_lost t.post.lost ≡ true
   served_lost until in_turn s t v h = one_lost v.before t _ v.looked (sliced_lost until in_turn s v.before v.sliced.waits v.sliced.run h)
 
+  ends_asked_lost : (b : Bool) (s t : Line W) → AsksEnd did b s t → is_lost s.post.lost ≡ true → is_lost t.post.lost ≡ true
+  ends_asked_lost true s t (shown, between, serves, is) h = subst (λ (x : Line W). is_lost x.post.lost ≡ true) (sym is) (one_lost s between _ serves h)
+  ends_asked_lost false s t same h = subst (λ (x : Line W). is_lost x.post.lost ≡ true) (sym same) h
+
+  looked_lost : (until : ℕ) (s t : Line W) (came : List LineEvent) → Chain (Looked did until) s came t → is_lost s.post.lost ≡ true → is_lost t.post.lost ≡ true
+  looked_lost until s t [] same h = subst (λ (x : Line W). is_lost x.post.lost ≡ true) same h
+  looked_lost until s t (one ∷ came) chain h =
+      let (mid, look, rest) = chain_first (Looked did until) s t one came chain in
+      looked_lost until mid t came rest (one_lost look.asked mid one look.waited (ends_asked_lost (is_to_ask look.between) look.between look.asked look.asks (one_lost s look.between _ look.timed h)))
+
+  anew_lost : (b : Bool) (s : Line W) → is_lost s.post.lost ≡ true → is_lost (asked_anew b s).post.lost ≡ true
+  anew_lost true s h = h
+  anew_lost false s h = h
+
+  sees_lost : (until : ℕ) (s t : Line W) → Sees did until s t → is_lost s.post.lost ≡ true → is_lost t.post.lost ≡ true
+  sees_lost until s t v h = one_lost v.before t _ v.timed (looked_lost until s v.before v.looked.came v.looked.run h)
+
   pub not_joined : (instant : ℕ) (s t : Line W) → is_lost s.post.lost ≡ true → Begins did instant Joined s t → ⊥
   not_joined instant s t h b =
-      none_here (is_link_up b.waited.end.link.state) (is_lost b.waited.post.lost) (served_lost instant false b.asked b.waited b.served (asked_lost _ s b.asked b.asks h)) b.begun.1
+      let waited = served_lost instant false b.asked b.waited b.served (asked_lost _ s b.asked b.asks h) in
+      none_here (is_seen b.seen) (is_lost b.seen.post.lost) (sees_lost _ _ b.seen b.begun.1 (anew_lost (is_on_the_second instant) b.waited waited)) b.begun.2
 
 module _ {W D : Type 0} (did : W → List WireAct → W → Type 0) (holds may_leave : D → List ℕ → Type 0) (moment : D → ℕ) (left_since : D → ℕ → List ℕ → Type 0) (has_failed : D → Bool) where
   pub starts_apart : (old new : LineWorld W D) (acts : List Act) → Chain (GoesByLine did holds may_leave moment left_since has_failed) old acts new → is_lost old.line.post.lost ≡ true → BeginsApart acts

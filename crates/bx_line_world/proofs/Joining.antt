@@ -12,16 +12,17 @@ use Rattle.bx_lapd.specs.declared.indication.Indication.{Indication}
 use Rattle.bx_lapd.specs.declared.indication.Indication.TheVariants.{Delivered, LinkError}
 use Rattle.bx_live.specs.Acts.{Act, Began, Dropped, Logged, Synced, Wrote, Read, Took, EndedDay}
 use Rattle.bx_live.specs.declared.world.Begin.{Begin}
-use Rattle.bx_live.specs.declared.world.Begin.TheVariants.{Late, Ended}
+use Rattle.bx_live.specs.declared.world.Begin.TheVariants.{Late, Alone, Joined, Ended}
 use Rattle.bx_live.specs.declared.world.Loss.{Loss}
 use Rattle.bx_live.specs.declared.world.Loss.TheVariants as losses
 use Rattle.bx_live.specs.Chains.{Chain, chain_first}
 use Rattle.bx_live.specs.Schedules.{instant_of_second}
 use Rattle.bx_line_world.specs.Wires.{WireAct}
-use Rattle.bx_line_world.specs.Posts.{with_messages, is_anew, reset, put, told_to, all_told_to, begun_by, dropped_by}
-use Rattle.bx_line_world.specs.Lines.{LineEvent, Asked, Given, Elapsed, Quiet, Serves, wire_acts_of, step_of, passed_after, shown_by}
+use Rattle.bx_line_world.specs.Posts.{with_messages, unasked, is_anew, reset, put, told_to, all_told_to, begun_by, dropped_by}
+use Rattle.bx_line_world.specs.Lines.{LineEvent, Asked, Given, Elapsed, Enquired, Quiet, Serves, wire_acts_of, step_of, passed_after, shown_by}
 use Rattle.bx_line_world.specs.Serving.{IsWait, Slice, Served, Polls, AsksLink, GivesMessage, is_idle}
-use Rattle.bx_line_world.specs.Days.{GoesByLine, IsTextOfMessages, ReadsTurn, ReadsFor, TakesMessage}
+use Rattle.bx_line_world.specs.Seeing.{is_to_ask, is_on_the_second, asked_anew, AsksEnd, Looked, Sees}
+use Rattle.bx_line_world.specs.Days.{GoesByLine, IsTextOfMessages, IsSecondBegun, LooksOut, ReadsTurn, ReadsFor, TakesMessage}
 use Rattle.bx_line_world.specs.Joined.{LinkEnd, end_of, line_at, after_event, after_events, wire_acts, delivered, given_in, read_in, AreWritten, GoesOverLink}
 use Rattle.bx_line_world.specs.declared.line.Line.{Line}
 use Rattle.bx_line_world.specs.declared.line_world.LineWorld.{LineWorld}
@@ -155,6 +156,10 @@ module _ {W : Type 0} {did : W → List WireAct → W → Type 0} where
             (subst (λ ms. IsPartOf (all_told_to s.post told).messages.items (s.post.messages.items ++ ms)) (sym (append-nil (messages_of told))) (told_part s.post told));
       }
 
+  pub one_events : {s t : Line W} (e : LineEvent) (sv : Serves did s e t) → (went_one e sv).events ≡ e ∷ []
+  unfolding went_one
+  one_events e sv = refl
+
   pub went_none : ((w : W) → did w [] w) → (s : Line W) → Went did s s [] []
   went_none nothing s = record { events = []; wire = nothing s.wire; link = refl; gave = refl; came = part_more s.post.messages.items [] }
 
@@ -167,6 +172,10 @@ module _ {W : Type 0} {did : W → List WireAct → W → Type 0} where
     gave = w.gave;
     came = subst (λ ms. IsPartOf (read ++ ms) (s.post.messages.items ++ delivered (end_of s) w.events)) (sym same) w.came;
   }
+
+  pub post_events : {s t : Line W} {given read : List (ArrayVec ℕ)} (p : Post) (same : p.messages.items ≡ t.post.messages.items) (w : Went did s t given read) → (with_post p same w).events ≡ w.events
+  unfolding with_post
+  post_events p same w = refl
 
   -- the first message that waits was read
   pub took_first : {s t : Line W} {given : List (ArrayVec ℕ)} (m : ArrayVec ℕ) (rest : List (ArrayVec ℕ)) → t.post.messages.items ≡ m ∷ rest → Went did s t given [] → Went did s (record t { post = with_messages t.post rest }) given (m ∷ [])
@@ -200,6 +209,10 @@ module _ {W : Type 0} {did : W → List WireAct → W → Type 0} where
               (subst (λ ms. IsPartOf (r ++ (q ++ u.post.messages.items)) ms) (append_assoc here one two ∙ ap (λ ms. here ++ ms) (sym (delivered_on first a.events b.events))) joined);
         }
 
+    pub on_events : {s t u : Line W} {g h r q : List (ArrayVec ℕ)} (a : Went did s t g r) (b : Went did t u h q) → (went_on a b).events ≡ a.events ++ b.events
+    unfolding went_on
+    on_events a b = refl
+
     -- ---- waits
 
     wait_gives : (until : ℕ) (came : LineEvent) → IsWait until came → given_in (came ∷ []) ≡ []
@@ -232,9 +245,36 @@ module _ {W : Type 0} {did : W → List WireAct → W → Type 0} where
         let (mid, step, rest) = chain_first (GivesMessage did) s t m ms chain in
         went_on (went_one (Given m step.0) step.1) (went_given mid t ms nothing rest)
 
-    went_asked : (b : Bool) (s t : Line W) → ((w : W) → did w [] w) → AsksLink did b s t → Went did s t [] []
+    pub went_asked : (b : Bool) (s t : Line W) → ((w : W) → did w [] w) → AsksLink did b s t → Went did s t [] []
     went_asked true s t nothing a = went_one (Asked a.0) a.1
     went_asked false s t nothing same = subst (λ (x : Line W). Went did s x [] []) (sym same) (went_none nothing s)
+
+    -- ---- looks at the other end
+
+    went_ends_asked : (b : Bool) (s t : Line W) → ((w : W) → did w [] w) → AsksEnd did b s t → Went did s t [] []
+    went_ends_asked true s t nothing (shown, between, serves, is) =
+        subst (λ (x : Line W). Went did s x [] []) (sym is) (with_post (record between.post { asked = true }) refl (went_one (Enquired shown) serves))
+    went_ends_asked false s t nothing same = subst (λ (x : Line W). Went did s x [] []) (sym same) (went_none nothing s)
+
+    went_looked : (until : ℕ) (s t : Line W) (came : List LineEvent) → ((w : W) → did w [] w) → Chain (Looked did until) s came t → Went did s t [] []
+    went_looked until s t [] nothing e = subst (λ (x : Line W). Went did s x [] []) e (went_none nothing s)
+    went_looked until s t (came ∷ more_came) nothing chain =
+        let (mid, one, rest) = chain_first (Looked did until) s t came more_came chain in
+        went_on (went_on (went_one (Elapsed one.shown) one.timed) (went_on (went_ends_asked (is_to_ask one.between) one.between one.asked nothing one.asks) (went_waited until came one.is_wait one.waited))) (went_looked until mid t more_came nothing rest)
+
+    went_anew : (b : Bool) (s : Line W) → ((w : W) → did w [] w) → Went did s (asked_anew b s) [] []
+    went_anew true s nothing = with_post (unasked s.post) refl (went_none nothing s)
+    went_anew false s nothing = went_none nothing s
+
+    went_out : (instant : ℕ) (s t : Line W) → ((w : W) → did w [] w) → LooksOut did instant s t → Went did s t [] []
+    went_out instant s t nothing v =
+        went_on (went_anew (is_on_the_second instant) s nothing) (went_on (went_looked _ (asked_anew (is_on_the_second instant) s) v.before v.looked.came nothing v.looked.run) (went_one (Elapsed v.shown) v.timed))
+
+    went_seen : (instant : ℕ) (begin : Begin) (s t : Line W) → ((w : W) → did w [] w) → IsSecondBegun did begin instant s t → Went did s t [] []
+    went_seen instant Late s t nothing (late, same) = subst (λ (x : Line W). Went did s x [] []) (sym same) (went_none nothing s)
+    went_seen instant Alone s t nothing b = went_out instant s t nothing b.1
+    went_seen instant Joined s t nothing b = went_out instant s t nothing b.1
+    went_seen instant Ended s t nothing b = absurd b
 
     begun_same : (p : Post) (begin : Begin) → (begun_by p begin).messages.items ≡ p.messages.items
     begun_same p Ended = refl
@@ -267,8 +307,9 @@ module _ {W D : Type 0} (did : W → List WireAct → W → Type 0) (holds may_l
   went_begun s t second begin g =
       let b = g.line in
       subst (λ (x : Line W). Went did s.line x [] []) (sym b.line)
-      (with_post (begun_by b.waited.post begin) (begun_same more b.waited.post begin)
-      (went_on more (went_asked more (is_idle s.line.end.link) s.line b.asked nothing b.asks) (went_served more (instant_of_second s.schedule second) false b.asked b.waited nothing b.served)))
+      (with_post (begun_by b.seen.post begin) (begun_same more b.seen.post begin)
+      (went_on more (went_on more (went_asked more (is_idle s.line.end.link) s.line b.asked nothing b.asks) (went_served more (instant_of_second s.schedule second) false b.asked b.waited nothing b.served))
+      (went_seen more (instant_of_second s.schedule second) begin b.waited b.seen nothing b.begun)))
 
   went_read : (s t : LineWorld W D) (room until second left : ℕ) (answer : Result Frame LinkFault) → ReadsFor did room until second left answer s.line t.line → Went did s.line t.line [] (read_in (Read room answer ∷ []))
   went_read s t zero until second left answer (is, same) = subst (λ (a : Result Frame LinkFault). Went did s.line t.line [] (read_in (Read zero a ∷ []))) (sym is) (unmoved s t same)

@@ -3,4 +3,5 @@ pub mod Never
 pub mod Apart
 pub mod Seconds
 pub mod Joining
+pub mod Alive
 pub mod NearEnd

@@ -6,12 +6,12 @@ use Rattle.bx_lapd.specs.declared.frame.Frame.{Frame}
 use Rattle.bx_lapd.specs.Endpoints.{hear_read}
 use Rattle.bx_lapd.specs.Links.{Link, LinkStep}
 use Rattle.bx_lapd.specs.Once.{IsPartOf}
-use Rattle.bx_lapd.specs.Table.{establish, takes_data, give, elapse, hear}
-use Rattle.bx_lapd.specs.World.{LinkWorld, LinkWorldEvent, AtNear, AtFar, EndEvent, Gives, Hears, Loses, Elapses, Asks, messages_of, near_becomes, comes, frames_lost, swapped, link_world_after, link_world_happens, at_near}
+use Rattle.bx_lapd.specs.Table.{establish, takes_data, give, elapse, poll, hear}
+use Rattle.bx_lapd.specs.World.{LinkWorld, LinkWorldEvent, AtNear, AtFar, EndEvent, Gives, Hears, Loses, Elapses, Polls, Asks, messages_of, near_becomes, comes, frames_lost, swapped, link_world_after, link_world_happens, at_near}
 use Rattle.bx_lapd.proofs.Lines.{once_holds}
 use Rattle.bx_live.specs.Acts.{Act}
 use Rattle.bx_line_world.specs.Wires.{WireAct}
-use Rattle.bx_line_world.specs.Lines.{LineEvent, Asked, Given, Elapsed, Heard, Passed, Quiet, step_of, time_at}
+use Rattle.bx_line_world.specs.Lines.{LineEvent, Asked, Given, Elapsed, Enquired, Heard, Passed, Quiet, step_of, time_at}
 use Rattle.bx_line_world.specs.Joined.{LinkEnd, end_of, line_at, after_event, delivered, given_in}
 use Rattle.bx_line_world.specs.TwoEnds.{Shared, Idle, Ours, Theirs, our_events, all_events, IsIdle, IsSame, IsTheirs, AreShared, IsOnce}
 use Rattle.bx_line_world.specs.declared.line_world.LineWorld.{LineWorld}
@@ -60,6 +60,8 @@ same_is u w (Asked shown) (Asks now) link is =
     by_step u w (Asked shown) (establish w.near.state w.near now) (ap (λ (l : Link). establish l.state l (time_at (line_at u) shown)) link ∙ ap (λ t. establish w.near.state w.near t) (sym is))
 same_is u w (Elapsed shown) (Elapses now) link is =
     by_step u w (Elapsed shown) (elapse w.near now) (ap (λ (l : Link). elapse l (time_at (line_at u) shown)) link ∙ ap (λ t. elapse w.near t) (sym is))
+same_is u w (Enquired shown) (Polls now) link is =
+    by_step u w (Enquired shown) (poll w.near now) (ap (λ (l : Link). poll l (time_at (line_at u) shown)) link ∙ ap (λ t. poll w.near t) (sym is))
 same_is u w (Given m shown) (Gives message now) link (same, is) =
     let step : step_of (line_at u) (Given m shown) ≡ give w.near message now = ap (λ (l : Link). give l m (time_at (line_at u) shown)) link ∙ (ap (λ x. give w.near x (time_at (line_at u) shown)) (sym same) ∙ ap (λ t. give w.near message t) (sym is)) in
     record {

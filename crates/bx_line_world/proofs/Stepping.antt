@@ -11,6 +11,7 @@ use Rattle.bx_live.specs.Chains.{Chain, chain_more}
 use Rattle.bx_line_world.specs.Wires.{WireAct, Shown, Sent}
 use Rattle.bx_line_world.specs.Posts.{told_to, all_told_to, is_lost}
 use Rattle.bx_line_world.specs.Lines.{LineEvent, Serves, IsEventTaken, passed_by, instant_in, time_at, step_of, asked_of, shown_by, passed_after, sent_as}
+use Rattle.bx_line_world.specs.Seeing.{Looked, LookedBy}
 use Rattle.bx_line_world.specs.Serving.{Slice, Sliced, GivesMessage, Polls, Polled, has_come, ends_quiet}
 use Rattle.bx_frames.specs.declared.frame.Frame.TheVariants as frames
 use Rattle.bx_frames.specs.declared.fault.LinkFault.{LinkFault}
@@ -100,6 +101,16 @@ module _ {W : Type 0} {did : W → List WireAct → W → Type 0} where
     waits = s.waits ++ came ∷ [];
     run = chain_more (Slice did until in_turn) a b c s.waits (came ∷ []) s.run one;
     counted = length_after s.waits came ∙ ap (λ m. m + 1) s.counted;
+  }
+
+  pub none_looked : (until : ℕ) (a : Line W) → LookedBy did until a a 0
+  none_looked until a = record { came = []; run = refl; counted = refl }
+
+  pub looked_more : {until : ℕ} {a b c : Line W} {n : ℕ} {came : LineEvent} → LookedBy did until a b n → Looked did until b came c → LookedBy did until a c (n + 1)
+  looked_more {until} {a} {b} {c} {n} {came} s one = record {
+    came = s.came ++ came ∷ [];
+    run = chain_more (Looked did until) a b c s.came (came ∷ []) s.run one;
+    counted = length_after s.came came ∙ ap (λ m. m + 1) s.counted;
   }
 
   pub none_polled : (a : Line W) → PolledBy did 0 a a

@@ -5,7 +5,6 @@ use Rattle.bx_frames.specs.Frames.{frames_of, turn_frame}
 use Rattle.bx_frames.specs.declared.fault.LinkFault.{LinkFault}
 use Rattle.bx_frames.specs.declared.frame.Frame.{Frame}
 use Rattle.bx_frames.specs.declared.frame.Frame.TheVariants as frames
-use Rattle.bx_lapd.specs.Links.{is_link_up}
 use Rattle.bx_lapd.specs.Table.{takes_data}
 use Rattle.bx_live.specs.declared.world.Begin.{Begin}
 use Rattle.bx_live.specs.declared.world.Begin.TheVariants.{Late, Alone, Joined, Ended}
@@ -16,30 +15,36 @@ use Rattle.bx_live.specs.Schedules.{instant_of_second}
 use Rattle.bx_live.specs.declared.schedule.TheConstants.{SECOND}
 use Rattle.bx_line_world.specs.Wires.{WireAct}
 use Rattle.bx_line_world.specs.Posts.{with_messages, begun_by, dropped_by, is_lost, IsNoneWithin}
+use Rattle.bx_line_world.specs.Seeing.{is_seen, is_on_the_second, asked_anew, look_until, Sees}
 use Rattle.bx_line_world.specs.Serving.{Served, Polled, AsksLink, GivesMessage, is_idle}
 use Rattle.bx_line_world.specs.declared.line.Line.{Line}
 use Rattle.bx_line_world.specs.declared.line_world.LineWorld.{LineWorld}
 
--- the link is up, and nothing was lost that the day is not told of
+-- the other end is seen, and nothing was lost that the day is not told of
 abbrev pub is_here : {W : Type 0} → Line W → Bool
-is_here s = is_link_up s.end.link.state && not (is_lost s.post.lost)
+is_here s = is_seen s && not (is_lost s.post.lost)
 
--- How a second begins whose instant was waited for. Late is more than a second after the instant, by the last reading of the clock.
--- It is never said that none begins any more
-abbrev pub IsSecondBegun : {W : Type 0} → Begin → ℕ → Line W → Type 0
-IsSecondBegun Late instant s = instant + SECOND < s.shown
-IsSecondBegun Alone instant s = (s.shown ≤ instant + SECOND) × (is_here s ≡ false)
-IsSecondBegun Joined instant s = (s.shown ≤ instant + SECOND) × (is_here s ≡ true)
-IsSecondBegun Ended instant s = ⊥
+-- the other end is looked for, by half a second of the clock after the instant, anew in each second of the clock
+abbrev pub LooksOut : {W : Type 0} → (W → List WireAct → W → Type 0) → ℕ → Line W → Line W → Type 0
+LooksOut did instant waited seen = Sees did (look_until instant waited.shown) (asked_anew (is_on_the_second instant) waited) seen
 
--- the instant of a second is waited for: first a link is asked for, where there is none; then it is served
+-- How a second begins whose instant was waited for. Late is more than a second after the instant, by the last reading of the clock; else
+-- the other end is looked for, and the second has a link where it is seen. It is never said that none begins any more
+abbrev pub IsSecondBegun : {W : Type 0} → (W → List WireAct → W → Type 0) → Begin → ℕ → Line W → Line W → Type 0
+IsSecondBegun did Late instant waited seen = (instant + SECOND < waited.shown) × (seen ≡ waited)
+IsSecondBegun did Alone instant waited seen = (waited.shown ≤ instant + SECOND) × LooksOut did instant waited seen × (is_here seen ≡ false)
+IsSecondBegun did Joined instant waited seen = (waited.shown ≤ instant + SECOND) × LooksOut did instant waited seen × (is_here seen ≡ true)
+IsSecondBegun did Ended instant waited seen = ⊥
+
+-- the instant of a second is waited for: first a link is asked for, where there is none; then it is served; then the other end is looked for
 pub record Begins {W : Type 0} (did : W → List WireAct → W → Type 0) (instant : ℕ) (begin : Begin) (old new : Line W) : Type 0 where
   pub asked : Line W
   pub asks : AsksLink did (is_idle old.end.link) old asked
   pub waited : Line W
   pub served : Served did instant false asked waited
-  pub begun : IsSecondBegun begin instant waited
-  pub line : new ≡ record waited { post = begun_by waited.post begin }
+  pub seen : Line W
+  pub begun : IsSecondBegun did begin instant waited seen
+  pub line : new ≡ record seen { post = begun_by seen.post begin }
 
 -- the octets of messages, alone or with an end of turn
 abbrev pub IsTextOfMessages : List (ArrayVec ℕ) → List ℕ → Type 0

@@ -1,5 +1,5 @@
 -- What holds of every live day over a data link, whose world goes by its line and its disk.
-use Rattle.std.specs.Prelude.{◌≡◌, ℕ, ◌≤◌, Bool, true, false, List, ◌∷◌, Some, Result}
+use Rattle.std.specs.Prelude.{◌≡◌, ℕ, ◌≤◌, ◌||◌, Bool, true, false, List, [], ◌∷◌, Some, Result}
 use Rattle.bx_day.specs.Day.{Day}
 use Rattle.bx_day.specs.Outages.{live_day_after}
 use Rattle.bx_live.specs.declared.world.Begin.{Begin}
@@ -9,12 +9,17 @@ use Rattle.bx_live.specs.Acts.{Act, Began, logged_by, ended, begins_none}
 use Rattle.bx_live.specs.Held.{AreHeld}
 use Rattle.bx_live.specs.Runs.{Between, Done}
 use Rattle.bx_live.specs.Running.{Runs, or_over}
+use Rattle.bx_lapd.specs.Links.{is_clear}
 use Rattle.bx_live.specs.Chains.{Chain}
+use Rattle.bx_live.specs.Schedules.{instant_of_second}
 use Rattle.bx_live.specs.Logs.{OnDisk}
 use Rattle.bx_line_world.specs.Wires.{WireAct}
 use Rattle.bx_line_world.specs.Days.{GoesByLine, octets_read}
 use Rattle.bx_line_world.specs.Posts.{is_lost}
-use Rattle.bx_line_world.specs.Joined.{GoesOverLink}
+use Rattle.bx_line_world.specs.Joined.{GoesOverLink, end_of, after_events, wire_acts}
+use Rattle.bx_line_world.specs.Lines.{LineEvent, Enquired, Heard}
+use Rattle.bx_line_world.specs.Seeing.{is_on_the_second}
+use Rattle.bx_line_world.specs.declared.line.Line.{Line}
 use Rattle.bx_line_world.specs.declared.line_world.LineWorld.{LineWorld}
 
 -- it is never said that no second begins any more
@@ -31,6 +36,33 @@ BeginsApart acts = Unit {0}
 abbrev pub StartsApart : {W D : Type 0} → (did : W → List WireAct → W → Type 0) (holds may_leave : D → List ℕ → Type 0) (moment : D → ℕ) (left_since : D → ℕ → List ℕ → Type 0) (has_failed : D → Bool) → Type 0
 StartsApart {W} {D} did holds may_leave moment left_since has_failed =
     (old new : LineWorld W D) (acts : List Act) → Chain (GoesByLine did holds may_leave moment left_since has_failed) old acts new → is_lost old.line.post.lost ≡ true → BeginsApart acts
+
+-- a frame came
+abbrev pub has_heard : List LineEvent → Bool
+has_heard [] = false
+has_heard (Heard until octets shown ∷ events) = true
+has_heard (event ∷ events) = has_heard events
+
+-- the other end was asked, and after that a frame came
+abbrev pub is_answered : List LineEvent → Bool
+is_answered [] = false
+is_answered (Enquired shown ∷ events) = has_heard events || is_answered events
+is_answered (event ∷ events) = is_answered events
+
+-- at these events, of which just this went over the wire, the other end was asked, and after that a frame came; and at their end the link is
+-- in state 7, and nothing that was given to it is unacknowledged
+pub record SeesEnd {W : Type 0} (did : W → List WireAct → W → Type 0) (old new : Line W) : Type 0 where
+  pub events : List LineEvent
+  pub wire : did old.wire (wire_acts (end_of old) events) new.wire
+  pub link : end_of new ≡ after_events (end_of old) events
+  pub answered : is_answered events ≡ true
+  pub clear : is_clear new.end.link ≡ true
+
+-- where a second of the day begins with a link, and one of the clock with it, the other end has shown that it is there
+abbrev pub IsSeenAlive : {W D : Type 0} → (did : W → List WireAct → W → Type 0) (holds may_leave : D → List ℕ → Type 0) (moment : D → ℕ) (left_since : D → ℕ → List ℕ → Type 0) (has_failed : D → Bool) → Type 0
+IsSeenAlive {W} {D} did holds may_leave moment left_since has_failed =
+    (old new : LineWorld W D) (second : ℕ) → GoesByLine did holds may_leave moment left_since has_failed old (Began second Joined) new
+    → is_on_the_second (instant_of_second old.schedule second) ≡ true → SeesEnd did old.line new.line
 
 -- the octets of messages that are read in one second
 abbrev pub ReadsSoMuch : {W D : Type 0} → (did : W → List WireAct → W → Type 0) (holds may_leave : D → List ℕ → Type 0) (moment : D → ℕ) (left_since : D → ℕ → List ℕ → Type 0) (has_failed : D → Bool) → Type 0

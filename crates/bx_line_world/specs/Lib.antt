@@ -2,6 +2,7 @@ pub mod Wires
 pub mod Posts
 pub mod Lines
 pub mod Serving
+pub mod Seeing
 pub mod Days
 pub mod Joined
 pub mod TwoEnds

@@ -4,7 +4,7 @@ use Rattle.arrayvec.specs.ArrayVec.{ArrayVec}
 use Rattle.bx_lapd.specs.declared.frame.Frame.{Frame}
 use Rattle.bx_lapd.specs.Codec.{sent_octets}
 use Rattle.bx_lapd.specs.Links.{LinkStep, does}
-use Rattle.bx_lapd.specs.Table.{establish, takes_data, give, elapse, due_of}
+use Rattle.bx_lapd.specs.Table.{establish, takes_data, give, elapse, poll, due_of}
 use Rattle.bx_lapd.specs.Endpoints.{hear_octets}
 use Rattle.bx_line_world.specs.Wires.{WireAct, Shown, Sent, Waited}
 use Rattle.bx_line_world.specs.Posts.{all_told_to, is_full}
@@ -20,6 +20,8 @@ pub data LineEvent : Type 0 where
   Given : (message : ArrayVec ℕ) (shown : ℕ) → LineEvent
   -- the timer is looked at
   Elapsed : (shown : ℕ) → LineEvent
+  -- the other end is asked whether it is there
+  Enquired : (shown : ℕ) → LineEvent
   -- octets came while an instant was waited for
   Heard : (until : ℕ) (octets : List ℕ) (shown : ℕ) → LineEvent
   -- octets of a message came so, for which there is no room
@@ -56,6 +58,7 @@ abbrev pub step_of : {W : Type 0} → Line W → LineEvent → LinkStep
 step_of s (Asked shown) = establish s.end.link.state s.end.link (time_at s shown)
 step_of s (Given m shown) = give s.end.link m (time_at s shown)
 step_of s (Elapsed shown) = elapse s.end.link (time_at s shown)
+step_of s (Enquired shown) = poll s.end.link (time_at s shown)
 step_of s (Heard until octets shown) = hear_octets s.end.network s.end.link octets (time_at s shown)
 step_of s (Passed until octets) = does s.end.link [] []
 step_of s (Quiet until) = does s.end.link [] []
@@ -65,6 +68,7 @@ abbrev pub asked_of : {W : Type 0} → Line W → LineEvent → List WireAct
 asked_of s (Asked shown) = Shown shown ∷ []
 asked_of s (Given m shown) = Shown shown ∷ []
 asked_of s (Elapsed shown) = Shown shown ∷ []
+asked_of s (Enquired shown) = Shown shown ∷ []
 asked_of s (Heard until octets shown) = Waited (slice_of s until) (Some octets) ∷ Shown shown ∷ []
 asked_of s (Passed until octets) = Waited (slice_of s until) (Some octets) ∷ []
 asked_of s (Quiet until) = Waited (slice_of s until) None ∷ []
@@ -80,6 +84,7 @@ abbrev pub shown_by : ℕ → LineEvent → ℕ
 shown_by before (Asked shown) = shown
 shown_by before (Given m shown) = shown
 shown_by before (Elapsed shown) = shown
+shown_by before (Enquired shown) = shown
 shown_by before (Heard until octets shown) = shown
 shown_by before (Passed until octets) = before
 shown_by before (Quiet until) = before
@@ -88,6 +93,7 @@ abbrev pub passed_after : {W : Type 0} → Line W → LineEvent → ℕ
 passed_after s (Asked shown) = passed_by s.passed s.shown shown
 passed_after s (Given m shown) = passed_by s.passed s.shown shown
 passed_after s (Elapsed shown) = passed_by s.passed s.shown shown
+passed_after s (Enquired shown) = passed_by s.passed s.shown shown
 passed_after s (Heard until octets shown) = passed_by s.passed s.shown shown
 passed_after s (Passed until octets) = s.passed
 passed_after s (Quiet until) = s.passed

@@ -16,7 +16,7 @@ use Rattle.bx_line_world.specs.declared.post.Post.{Post}
 
 -- nothing
 abbrev pub no_post : Post
-no_post = record { messages = record { items = [] }; lost = None; here = false }
+no_post = record { messages = record { items = [] }; lost = None; here = false; asked = false }
 
 -- what a day finds that goes on from a moment: behind a start what was said last may be lost, which the day is told
 abbrev pub post_from : ℕ → Post
@@ -31,6 +31,10 @@ abbrev pub reset : Bool → Post → Post
 reset true p = record p { lost = Some LinkReset }
 reset false p = p
 
+-- the other end has still to be asked, in this second of the clock, whether it is there
+abbrev pub unasked : Post → Post
+unasked p = record p { asked = false }
+
 -- the other end has established the link anew: it may know nothing of what was said over it before (ITU-T Q.921, 5.7)
 abbrev pub is_anew : ErrorCode → Bool
 is_anew PeerEstablishes = true
@@ -41,12 +45,13 @@ abbrev pub put : Bool → Post → ArrayVec ℕ → Post
 put true p m = with_messages p (p.messages.items ++ m ∷ [])
 put false p m = record p { lost = Some MoreThan64Messages }
 
--- the link has told this
+-- The link has told this. All but a message says that the link is another than before, or may be: who was asked over the old one has to
+-- be asked again
 abbrev pub told_to : Post → Indication → Post
 told_to p (Delivered m) = put (nat_lt (length p.messages.items) MAX_MESSAGES) p m
-told_to p LinkEstablished = reset p.here p
-told_to p LinkReleased = reset p.here p
-told_to p (LinkError code) = reset (is_anew code && p.here) p
+told_to p LinkEstablished = unasked (reset p.here p)
+told_to p LinkReleased = unasked (reset p.here p)
+told_to p (LinkError code) = unasked (reset (is_anew code && p.here) p)
 
 abbrev pub all_told_to : Post → List Indication → Post
 all_told_to p [] = p

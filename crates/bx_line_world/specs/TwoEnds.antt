@@ -5,10 +5,10 @@ use Rattle.bx_lapd.specs.declared.refusal.Refusal.TheVariants as refusals
 use Rattle.bx_lapd.specs.declared.refusal.Invalid.{Invalid}
 use Rattle.bx_lapd.specs.Codec.{read_octets}
 use Rattle.bx_lapd.specs.Once.{IsPartOf, AreUnlinked}
-use Rattle.bx_lapd.specs.World.{LinkWorld, LinkWorldEvent, AtNear, AtFar, EndEvent, Gives, Hears, Loses, Elapses, Asks, link_world_after, link_world_happens, at_near}
+use Rattle.bx_lapd.specs.World.{LinkWorld, LinkWorldEvent, AtNear, AtFar, EndEvent, Gives, Hears, Loses, Elapses, Polls, Asks, link_world_after, link_world_happens, at_near}
 use Rattle.bx_live.specs.Acts.{Act}
 use Rattle.bx_line_world.specs.Wires.{WireAct}
-use Rattle.bx_line_world.specs.Lines.{LineEvent, Asked, Given, Elapsed, Heard, Passed, Quiet, time_at}
+use Rattle.bx_line_world.specs.Lines.{LineEvent, Asked, Given, Elapsed, Enquired, Heard, Passed, Quiet, time_at}
 use Rattle.bx_line_world.specs.Joined.{LinkEnd, end_of, line_at, after_event, given_in, read_in, GoesOverLink}
 use Rattle.bx_line_world.specs.declared.line_world.LineWorld.{LineWorld}
 
@@ -42,6 +42,7 @@ abbrev pub IsSame : LinkEnd → LinkWorld → LineEvent → EndEvent → Type 0
 IsSame u w (Asked shown) (Asks now) = now ≡ time_at (line_at u) shown
 IsSame u w (Given m shown) (Gives message now) = (message ≡ m) × (now ≡ time_at (line_at u) shown)
 IsSame u w (Elapsed shown) (Elapses now) = now ≡ time_at (line_at u) shown
+IsSame u w (Enquired shown) (Polls now) = now ≡ time_at (line_at u) shown
 IsSame u w (Heard until octets shown) (Hears now) = (now ≡ time_at (line_at u) shown) × ((f : Frame) × (rest : List Frame) × (w.far_sent ≡ f ∷ rest) × (read_octets u.network octets ≡ Ok f))
 IsSame u w event same = ⊥
 

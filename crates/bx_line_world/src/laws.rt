@@ -4,17 +4,19 @@ ghost use Rattle.std.specs.Prelude.{◌≡◌, ◌≤◌, ◌∷◌, List};
 ghost use Rattle.bx_live.specs.Acts.{Act};
 ghost use Rattle.bx_line_world.specs.TwoEnds.{IsOnce};
 ghost use Rattle.bx_line_world.specs.declared.line_world.LineWorld.{LineWorld as PlainLineWorld};
-ghost use Rattle.bx_line_world.specs.Laws.{NeverEnds, StartsApart, ReadsSoMuch, DiskGoesAlong, AllGoOverLink};
+ghost use Rattle.bx_line_world.specs.Laws.{NeverEnds, StartsApart, IsSeenAlive, ReadsSoMuch, DiskGoesAlong, AllGoOverLink};
 
 use crate::wire::Wire;
 use bx_journal::Disk;
 
 /// It is never said that no second begins any more; where something was lost that the day has not heard of, as behind a start, no second begins
-/// with a link before one has begun without; in one second at most 8,000 octets of messages are read; and the disk of the journal
-/// has gone through the acts, so what holds of a run over a disk holds of it.
+/// with a link before one has begun without; where a second begins with a link, and a second of the clock with it, the other end was asked
+/// in it and has answered, and all that it was given is acknowledged; in one second at most 8,000 octets of messages are read; and the disk
+/// of the journal has gone through the acts, so what holds of a run over a disk holds of it.
 pub fn of_line<W: Wire, D: Disk>()
     ensures begins { NeverEnds W.did D.holds D.may_leave D.moment D.left_since D.has_failed }
     ensures apart { StartsApart W.did D.holds D.may_leave D.moment D.left_since D.has_failed }
+    ensures alive { IsSeenAlive W.did D.holds D.may_leave D.moment D.left_since D.has_failed }
     ensures second { ReadsSoMuch W.did D.holds D.may_leave D.moment D.left_since D.has_failed }
     ensures kept { DiskGoesAlong W.did D.holds D.may_leave D.moment D.left_since D.has_failed }
 {}

@@ -6,6 +6,7 @@ mod line;
 mod line_world;
 mod post;
 mod running;
+mod seeing;
 mod serving;
 mod udp;
 mod wire;

@@ -4,6 +4,7 @@ ghost use Rattle.std.specs.Prelude.{◌≡◌, ◌∷◌, [], ℕ, ◌<◌, ◌^
 ghost use Rattle.bx_line_world.specs.Posts.{no_post, post_from};
 ghost use Rattle.bx_line_world.specs.Lines.{Elapsed, Serves, instant_in, slice_of, sent_as, is_information, is_passed};
 ghost use Rattle.bx_line_world.specs.Serving.{AsksLink, is_idle, is_wait_over};
+ghost use Rattle.bx_line_world.specs.Seeing.{AsksEnd, is_seen, is_to_ask};
 ghost use Rattle.bx_line_world.specs.Steps.{Looks, with_wire, SendsFrames, keeps, CarriesOut, GivesWhere, Waits};
 
 use crate::post::Post;
@@ -87,6 +88,20 @@ impl<W> Line<W> {
         until <= self.shown || (in_turn && self.post.has_news())
     }
 
+    /// Whether the other end was asked in this second of the clock, and has answered and acknowledged all.
+    pub(crate) fn is_seen(&self) -> bool
+        ensures { result ≡ is_seen self.now }
+    {
+        self.post.asked && self.end.is_clear()
+    }
+
+    /// Whether it was not asked yet, and nothing stands in the way.
+    fn is_to_ask(&self) -> bool
+        ensures { result ≡ is_to_ask self.now }
+    {
+        !self.post.asked && self.end.is_clear()
+    }
+
     /// Whether there is no link, and no attempt runs.
     fn is_idle(&self) -> bool
         ensures { result ≡ is_idle self.now.end.link }
@@ -165,6 +180,19 @@ impl<W: Wire> Line<W> {
             let now = self.now();
             let done = self.end.establish(now);
             self.carry_out(&done);
+        }
+    }
+
+    /// Asks the other end whether it is there, where that is to be done.
+    pub(crate) fn ask_end(&mut self)
+        ensures { AsksEnd W.did (is_to_ask self.old) self.old self.new }
+    {
+        if self.is_to_ask() {
+            self.look();
+            let now = self.now();
+            let done = self.end.poll(now);
+            self.carry_out(&done);
+            self.post.asked = true;
         }
     }
 

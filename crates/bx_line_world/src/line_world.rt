@@ -4,6 +4,7 @@ ghost use Rattle.std.specs.Prelude.{◌≡◌, is_ok, Ok};
 ghost use Rattle.bx_line_world.specs.Days.{IsSecondBegun, Begins, GivesAll, TakesMessage, ReadsTurn, octets_of_message};
 
 use crate::line::Line;
+use crate::seeing::look_until;
 use crate::wire::Wire;
 use bx_devices::WriteFailed;
 use bx_events::LiveEvent;
@@ -54,14 +55,17 @@ impl<W, D: Disk> LineWorld<W, D> {
 }
 
 impl<W: Wire> Line<W> {
-    /// How a second begins whose instant was waited for.
-    fn begun(&self, instant: u128) -> Begin
-        ensures { IsSecondBegun result instant self.now }
+    /// How a second begins whose instant was waited for: with a link where the other end is seen.
+    fn begun(&mut self, instant: u128) -> Begin
+        ensures { IsSecondBegun W.did result instant self.old self.new }
     {
         if self.shown.saturating_sub(instant) > SECOND {
             return Begin::Late;
         }
-        if self.end.is_up() && self.post.lost.is_none() {
+        let until = look_until(instant, self.shown);
+        self.ask_anew(instant);
+        self.see(until);
+        if self.is_seen() && self.post.lost.is_none() {
             Begin::Joined
         } else {
             Begin::Alone

@@ -2,7 +2,7 @@
 
 ghost use Rattle.std.specs.Prelude.{◌≡◌};
 ghost use Rattle.bx_lapd.specs.declared.indication.Indication.TheVariants.{Delivered};
-ghost use Rattle.bx_line_world.specs.Posts.{no_post, post_from, is_full, told_to, reset, begun_by, dropped_by};
+ghost use Rattle.bx_line_world.specs.Posts.{no_post, post_from, is_full, told_to, reset, unasked, begun_by, dropped_by};
 ghost use Rattle.bx_line_world.specs.Serving.{has_news};
 ghost use Rattle.bx_line_world.specs.Steps.{TakesFirst};
 
@@ -15,13 +15,14 @@ use bx_q931::{Octets, copied};
 /// The most messages that wait: those of a turn.
 const MAX_WAITING: usize = MAX_MESSAGES as usize;
 
-/// The messages that were delivered and not read, at most `MAX_MESSAGES`; whether some may be lost, and why; and whether the day has
-/// this link.
+/// The messages that were delivered and not read, at most `MAX_MESSAGES`; whether some may be lost, and why; whether the day has this
+/// link; and whether the other end was asked over it, in this second of the clock, if it is there.
 #[derive(Drop)]
 pub struct Post {
     pub messages: ArrayVec<Octets, MAX_WAITING>,
     pub lost: Option<LinkFault>,
     pub here: bool,
+    pub asked: bool,
 }
 
 impl Post {
@@ -33,6 +34,7 @@ impl Post {
             messages: ArrayVec::new(),
             lost: None,
             here: false,
+            asked: false,
         }
     }
 
@@ -47,10 +49,11 @@ impl Post {
         post
     }
 
-    /// What was under way may be lost. What was delivered before was acknowledged, and stays.
+    /// What was under way may be lost, and the other end has to be asked again. What was delivered before was acknowledged, and stays.
     fn reset(&mut self)
-        ensures { self.new ≡ reset self.old.here self.old }
+        ensures { self.new ≡ unasked (reset self.old.here self.old) }
     {
+        self.asked = false;
         if self.here {
             self.lost = Some(LinkFault::LinkReset);
         }
@@ -77,7 +80,7 @@ impl Post {
             Indication::LinkEstablished => self.reset(),
             Indication::LinkReleased => self.reset(),
             Indication::LinkError(ErrorCode::PeerEstablishes) => self.reset(),
-            Indication::LinkError(_) => {}
+            Indication::LinkError(_) => self.asked = false,
         }
     }
 

@@ -15,8 +15,8 @@ const SECOND: u64 = 1_000_000_000;
 /// How long a frame is on its way.
 const DELAY: u64 = 20_000_000;
 
-/// Of a thousand frames so many are lost, as a seed draws them; between two seconds all are; in some second, if any, the far end asks
-/// for its link anew, or releases it; in some second, if any, it begins to send so many messages of 260 octets that mean nothing; and at
+/// Of a thousand frames so many are lost, as a seed draws them; between two seconds all are; in the middle of some second, if any, the far
+/// end asks for its link anew, or releases it; in some second, if any, it begins to send so many messages of 260 octets that mean nothing; and at
 /// some millisecond, if any, the clock jumps to another.
 #[derive(Clone, Copy)]
 pub struct Manner {
@@ -145,10 +145,7 @@ impl MemoryWire {
     /// The next second of the far end.
     fn pass_second(&mut self) {
         let now = self.instant();
-        if self.second == self.manner.release {
-            let done = self.end.release(now);
-            self.carry_out(&done);
-        } else if self.second == self.manner.anew || !self.end.is_up() && self.end.due().is_none() {
+        if !self.end.is_up() && self.end.due().is_none() {
             let done = self.end.establish(now);
             self.carry_out(&done);
         }
@@ -161,6 +158,26 @@ impl MemoryWire {
         }
     }
 
+    /// When the far end asks for its link anew, or releases it: half a second after a second of it has begun.
+    fn resets_at(&self) -> u64 {
+        match self.manner.anew.max(self.manner.release) {
+            0 => u64::MAX,
+            second => second.saturating_mul(SECOND).saturating_add(SECOND / 2),
+        }
+    }
+
+    fn reset(&mut self) {
+        let now = self.instant();
+        let done = if self.manner.anew > 0 {
+            self.end.establish(now)
+        } else {
+            self.end.release(now)
+        };
+        self.manner.anew = 0;
+        self.manner.release = 0;
+        self.carry_out(&done);
+    }
+
     /// When the far end does something next.
     fn next(&self) -> u64 {
         let timer = match self.end.due() {
@@ -168,7 +185,10 @@ impl MemoryWire {
             None => u64::MAX,
         };
         let second = self.second.saturating_mul(SECOND);
-        first_at(&self.to_far).min(timer).min(second)
+        first_at(&self.to_far)
+            .min(timer)
+            .min(second)
+            .min(self.resets_at())
     }
 
     /// The far end does what it does next.
@@ -178,6 +198,8 @@ impl MemoryWire {
             let flying = self.to_far.remove(0);
             let done = self.end.receive(flying.octets.as_slice(), now);
             self.carry_out(&done);
+        } else if self.resets_at() <= self.now {
+            self.reset();
         } else if self.second.saturating_mul(SECOND) <= self.now {
             self.pass_second();
         } else {

@@ -4,5 +4,5 @@ use Rattle.bx_line_world.proofs.line.Line.begin.Goals as goal
 
 pub returns : goal.returns
 returns g c =
-    let w = c.serve.new.self in
-    record { asked = c.ask.new.self; asks = c.ask.ensures; waited = w; served = c.serve.ensures; begun = c.begun-begin.ensures; line = ap (λ (p : Post). record w { post = p }) c.begin.ensures }
+    let seen = c.begun-begin.new.self in
+    record { asked = c.ask.new.self; asks = c.ask.ensures; waited = c.serve.new.self; served = c.serve.ensures; seen = seen; begun = c.begun-begin.ensures; line = ap (λ (p : Post). record seen { post = p }) c.begin.ensures }
