@@ -66,8 +66,3 @@ pub record Sees {W : Type 0} (did : W → List WireAct → W → Type 0) (until 
   pub shown : ℕ
   pub timed : Serves did before (Elapsed shown) new
   pub over : (is_look_over new until ≡ true) ⊎ (count ≡ 18446744073709551615)
-
--- one look, or a look at the timer at which it is over
-abbrev pub GoesOnLooking : {W : Type 0} → (W → List WireAct → W → Type 0) → ℕ → Bool → Line W → Line W → Type 0
-GoesOnLooking did until true old new = (shown : ℕ) × Serves did old (Elapsed shown) new × (is_look_over new until ≡ true)
-GoesOnLooking did until false old new = (came : LineEvent) × Looked did until old came new

@@ -9,6 +9,7 @@ use Rattle.bx_line_world.specs.Wires.{WireAct, Shown}
 use Rattle.bx_line_world.specs.Posts.{all_told_to, with_messages, IsNoneWithin}
 use Rattle.bx_line_world.specs.Lines.{LineEvent, Elapsed, Serves, passed_by, sent_as}
 use Rattle.bx_line_world.specs.Serving.{GivesMessage, IsWait, Slice, Polls, has_come, is_wait_over}
+use Rattle.bx_line_world.specs.Seeing.{Looked, is_look_over}
 use Rattle.bx_live.specs.Chains.{Chain}
 use Rattle.bx_line_world.specs.declared.line.Line.{Line}
 use Rattle.bx_line_world.specs.declared.post.Post.{Post}
@@ -53,6 +54,11 @@ pub record PolledBy {W : Type 0} (did : W → List WireAct → W → Type 0) (co
 abbrev pub GoesOnWaiting : {W : Type 0} → (W → List WireAct → W → Type 0) → ℕ → Bool → Bool → Line W → Line W → Type 0
 GoesOnWaiting did until in_turn true old new = (shown : ℕ) × Serves did old (Elapsed shown) new × (is_wait_over new until in_turn ≡ true)
 GoesOnWaiting did until in_turn false old new = (came : LineEvent) × Slice did until in_turn old came new
+
+-- one look, or a look at the timer at which it is over
+abbrev pub GoesOnLooking : {W : Type 0} → (W → List WireAct → W → Type 0) → ℕ → Bool → Line W → Line W → Type 0
+GoesOnLooking did until true old new = (shown : ℕ) × Serves did old (Elapsed shown) new × (is_look_over new until ≡ true)
+GoesOnLooking did until false old new = (came : LineEvent) × Looked did until old came new
 
 -- the first message is taken, where one is there that has at most so many octets
 abbrev pub TakesFirst : ℕ → Post → Option (ArrayVec ℕ) → Post → Type 0

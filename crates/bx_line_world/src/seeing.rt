@@ -1,7 +1,8 @@
 //! Whether the other end is there, as each second of the clock shows it.
 
 ghost use Rattle.std.specs.Prelude.{◌≡◌};
-ghost use Rattle.bx_line_world.specs.Seeing.{is_look_over, is_on_the_second, asked_anew, look_until, Sees, GoesOnLooking};
+ghost use Rattle.bx_line_world.specs.Seeing.{is_look_over, is_on_the_second, asked_anew, look_until, Sees};
+ghost use Rattle.bx_line_world.specs.Steps.{GoesOnLooking};
 
 use crate::line::Line;
 use crate::wire::Wire;
