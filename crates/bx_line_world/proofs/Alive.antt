@@ -17,7 +17,7 @@ use Rattle.bx_live.specs.Acts.{Act, Began}
 use Rattle.bx_live.specs.Chains.{Chain, chain_first}
 use Rattle.bx_live.specs.Schedules.{instant_of_second}
 use Rattle.bx_line_world.specs.Wires.{WireAct}
-use Rattle.bx_line_world.specs.Posts.{unasked, put, told_to, all_told_to, begun_by, is_lost}
+use Rattle.bx_line_world.specs.Posts.{not_asked, is_anew, is_stray, erred, put, told_to, all_told_to, begun_by, is_lost}
 use Rattle.bx_line_world.specs.Lines.{LineEvent, Asked, Given, Elapsed, Enquired, Heard, Passed, Quiet, Serves, step_of, time_at}
 use Rattle.bx_line_world.specs.Serving.{IsWait, is_idle}
 use Rattle.bx_line_world.specs.Seeing.{is_seen, is_to_ask, is_on_the_second, asked_anew, AsksEnd, Looked, Sees}
@@ -117,8 +117,13 @@ put_asked : (b : Bool) (p : Post) (m : ArrayVec ℕ) → (put b p m).asked ≡ t
 put_asked true p m h = h
 put_asked false p m h = h
 
+erred_asked : (stray anew : Bool) (p : Post) → (erred stray anew p).asked ≡ true → p.asked ≡ true
+erred_asked true anew p h = h
+erred_asked false anew p h = absurd (false≢true h)
+
 told_asked : (p : Post) (told : Indication) → (told_to p told).asked ≡ true → p.asked ≡ true
 told_asked p (Delivered m) h = put_asked _ p m h
+told_asked p (LinkError code) h = erred_asked (is_stray code) (is_anew code) p h
 told_asked p told h = absurd (false≢true h)
 
 all_told_asked : (p : Post) (told : List Indication) → (all_told_to p told).asked ≡ true → p.asked ≡ true

@@ -7,7 +7,7 @@ use Rattle.bx_live.specs.declared.world.Begin.TheVariants.{Joined}
 use Rattle.bx_live.specs.Acts.{Act, Began}
 use Rattle.bx_live.specs.Chains.{Chain, chain_first}
 use Rattle.bx_line_world.specs.Wires.{WireAct}
-use Rattle.bx_line_world.specs.Posts.{is_anew, is_lost, post_from, reset, put, told_to, all_told_to}
+use Rattle.bx_line_world.specs.Posts.{is_anew, is_stray, erred, is_lost, post_from, reset, put, told_to, all_told_to}
 use Rattle.bx_line_world.specs.Lines.{LineEvent, Elapsed, Serves, step_of}
 use Rattle.bx_line_world.specs.Serving.{Slice, Served, AsksLink}
 use Rattle.bx_line_world.specs.Seeing.{is_seen, is_to_ask, is_on_the_second, asked_anew, AsksEnd, Looked, Sees}
@@ -25,9 +25,13 @@ reset_lost : (b : Bool) (p : Post) → is_lost p.lost ≡ true → is_lost (rese
 reset_lost true p h = refl
 reset_lost false p h = h
 
+erred_lost : (stray anew : Bool) (p : Post) → is_lost p.lost ≡ true → is_lost (erred stray anew p).lost ≡ true
+erred_lost true anew p h = h
+erred_lost false anew p h = reset_lost (anew && p.here) p h
+
 told_lost : (p : Post) (told : Indication) → is_lost p.lost ≡ true → is_lost (told_to p told).lost ≡ true
 told_lost p (Delivered m) h = put_lost _ p m h
-told_lost p (LinkError code) h = reset_lost (is_anew code && p.here) p h
+told_lost p (LinkError code) h = erred_lost (is_stray code) (is_anew code) p h
 told_lost p told h = reset_lost p.here p h
 
 all_told_lost : (p : Post) (told : List Indication) → is_lost p.lost ≡ true → is_lost (all_told_to p told).lost ≡ true

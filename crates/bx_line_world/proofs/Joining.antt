@@ -18,7 +18,7 @@ use Rattle.bx_live.specs.declared.world.Loss.TheVariants as losses
 use Rattle.bx_live.specs.Chains.{Chain, chain_first}
 use Rattle.bx_live.specs.Schedules.{instant_of_second}
 use Rattle.bx_line_world.specs.Wires.{WireAct}
-use Rattle.bx_line_world.specs.Posts.{with_messages, unasked, is_anew, reset, put, told_to, all_told_to, begun_by, dropped_by}
+use Rattle.bx_line_world.specs.Posts.{with_messages, not_asked, is_anew, is_stray, erred, reset, put, told_to, all_told_to, begun_by, dropped_by}
 use Rattle.bx_line_world.specs.Lines.{LineEvent, Asked, Given, Elapsed, Enquired, Quiet, Serves, wire_acts_of, step_of, passed_after, shown_by}
 use Rattle.bx_line_world.specs.Serving.{IsWait, Slice, Served, Polls, AsksLink, GivesMessage, is_idle}
 use Rattle.bx_line_world.specs.Seeing.{is_to_ask, is_on_the_second, asked_anew, AsksEnd, Looked, Sees}
@@ -75,9 +75,13 @@ put_part : (b : Bool) (p : Post) (m : ArrayVec ℕ) → IsPartOf (put b p m).mes
 put_part true p m = part_refl (p.messages.items ++ m ∷ [])
 put_part false p m = part_more p.messages.items (m ∷ [])
 
+erred_part : (stray anew : Bool) (p : Post) → IsPartOf (erred stray anew p).messages.items (p.messages.items ++ [])
+erred_part true anew p = part_more p.messages.items []
+erred_part false anew p = reset_part (anew && p.here) p []
+
 told_one : (p : Post) (told : Indication) → IsPartOf (told_to p told).messages.items (p.messages.items ++ messages_of (told ∷ []))
 told_one p (Delivered m) = put_part _ p m
-told_one p (LinkError code) = reset_part (is_anew code && p.here) p []
+told_one p (LinkError code) = erred_part (is_stray code) (is_anew code) p
 told_one p told = reset_part p.here p _
 
 messages_more : (told : Indication) (more : List Indication) → messages_of (told ∷ more) ≡ messages_of (told ∷ []) ++ messages_of more

@@ -7,7 +7,7 @@ use Rattle.bx_frames.specs.declared.turn.TheConstants.{MAX_MESSAGES}
 use Rattle.bx_lapd.specs.declared.indication.Indication.{Indication}
 use Rattle.bx_lapd.specs.declared.indication.Indication.TheVariants.{LinkEstablished, LinkReleased, Delivered, LinkError}
 use Rattle.bx_lapd.specs.declared.words.ErrorCode.{ErrorCode}
-use Rattle.bx_lapd.specs.declared.words.ErrorCode.TheVariants.{PeerEstablishes}
+use Rattle.bx_lapd.specs.declared.words.ErrorCode.TheVariants.{PeerEstablishes, UnaskedFinal, UaFinal, Ua}
 use Rattle.bx_live.specs.declared.world.Begin.{Begin}
 use Rattle.bx_live.specs.declared.world.Begin.TheVariants.{Late, Alone, Joined, Ended}
 use Rattle.bx_live.specs.declared.world.Loss.{Loss}
@@ -40,18 +40,30 @@ abbrev pub is_anew : ErrorCode → Bool
 is_anew PeerEstablishes = true
 is_anew code = false
 
+-- an answer that nobody waits for, as one that comes twice: the link stays as it is
+abbrev pub is_stray : ErrorCode → Bool
+is_stray UnaskedFinal = true
+is_stray UaFinal = true
+is_stray Ua = true
+is_stray code = false
+
+-- the link has told an error
+abbrev pub erred : Bool → Bool → Post → Post
+erred true anew p = p
+erred false anew p = not_asked (reset (anew && p.here) p)
+
 -- a message that there is no room for is lost
 abbrev pub put : Bool → Post → ArrayVec ℕ → Post
 put true p m = with_messages p (p.messages.items ++ m ∷ [])
 put false p m = record p { lost = Some MoreThan64Messages }
 
--- The link has told this. All but a message says that the link is another than before, or may be: who was asked over the old one has to
--- be asked again
+-- The link has told this. All but a message, and an answer that nobody waits for, says that the link is another than before, or may be: who
+-- was asked over the old one has to be asked again
 abbrev pub told_to : Post → Indication → Post
 told_to p (Delivered m) = put (nat_lt (length p.messages.items) MAX_MESSAGES) p m
-told_to p LinkEstablished = unasked (reset p.here p)
-told_to p LinkReleased = unasked (reset p.here p)
-told_to p (LinkError code) = unasked (reset (is_anew code && p.here) p)
+told_to p LinkEstablished = not_asked (reset p.here p)
+told_to p LinkReleased = not_asked (reset p.here p)
+told_to p (LinkError code) = erred (is_stray code) (is_anew code) p
 
 abbrev pub all_told_to : Post → List Indication → Post
 all_told_to p [] = p
