@@ -4,3 +4,5 @@ pub mod Keeping
 pub mod Kept
 pub mod Passing
 pub mod Standstill
+pub mod LiveReceipts
+pub mod AtOnce

@@ -4,6 +4,8 @@ pub mod Policies
 pub mod ScriptTexts
 pub mod FarDay
 pub mod FarRun
+pub mod LiveReceipts
+pub mod Laws
 pub mod Seats
 pub mod BegunTicks
 pub mod Course

@@ -6,6 +6,8 @@ mod begun_tick;
 mod end;
 mod far;
 mod fault;
+pub mod laws;
+mod live_receiving;
 mod outages;
 mod receiving;
 mod row;

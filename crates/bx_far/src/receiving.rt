@@ -43,7 +43,12 @@ impl Far {
         }
     }
 
-    fn receive_call(&mut self, reference: u16, flag: bool, message: &Message<'_>) -> Option<Out>
+    pub(crate) fn receive_call(
+        &mut self,
+        reference: u16,
+        flag: bool,
+        message: &Message<'_>,
+    ) -> Option<Out>
         requires limit { IsCallReference reference }
         requires same { message.now.reference ≡ Reference.Value reference flag }
         ensures day { self.new ≡ (far_receive self.old (said_of reference flag message.now) (called_of message.now)).day }
@@ -64,7 +69,7 @@ impl Far {
     }
 
     /// A message that names no live call.
-    fn stray(&mut self, reference: u16, flag: bool, message: &Message<'_>) -> Option<Out>
+    pub(crate) fn stray(&mut self, reference: u16, flag: bool, message: &Message<'_>) -> Option<Out>
         requires limit { IsCallReference reference }
         requires same { message.now.reference ≡ Reference.Value reference flag }
         ensures day { self.new ≡ (far_stray self.old (said_of reference flag message.now) (called_of message.now) message.now.kind).day }

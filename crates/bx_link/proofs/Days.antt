@@ -5,7 +5,7 @@ use Rattle.bx_frames.specs.declared.fault.LinkFault.{LinkFault}
 use Rattle.bx_frames.specs.declared.frame.Frame.{Frame}
 use Rattle.bx_frames.specs.declared.frame.Frame.TheVariants as frames
 use Rattle.bx_far.specs.FarDay.{FarDay}
-use Rattle.bx_far.specs.Course.{far_next, far_live_after, far_text}
+use Rattle.bx_far.specs.Course.{far_line_next, far_live_after, far_line_text}
 use Rattle.bx_live.specs.declared.world.Begin.{Begin}
 use Rattle.bx_live.specs.declared.world.Begin.TheVariants as begins
 use Rattle.bx_live.specs.declared.world.Loss.{Loss}
@@ -40,7 +40,7 @@ either_day true d loss = refl
 either_day false d loss = refl
 
 heard_day : (d : FarDay) (room : ℕ) (answer : Result Frame LinkFault) → Steps (Hearing d room) (Read room answer)
-heard_day d room (Ok (frames.Message octets)) = owing_day (far_next d (Receive octets.items)) _ (far_text d (Receive octets.items))
+heard_day d room (Ok (frames.Message octets)) = owing_day (far_line_next d (Receive octets.items)) _ (far_line_text d (Receive octets.items))
 heard_day d room (Ok (frames.EndOfTurn said)) = either_day (said == d.moment) d _
 heard_day d room (Ok frames.EndOfDay) = refl
 heard_day d room (Err fault) = refl

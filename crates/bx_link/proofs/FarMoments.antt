@@ -18,6 +18,7 @@ use Rattle.bx_events.specs.Events.{Event, Tick, Receive}
 use Rattle.bx_far.specs.FarDay.{FarDay, far_tick, far_ticked, far_refuses, far_takes, far_called_on, far_called, far_stray, far_received_by, far_receive, is_taken, first_call, far_names}
 use Rattle.bx_calls.specs.Sending.{Sent, Answered, unchanged}
 use Rattle.bx_far.specs.FarRun.{far_receive_from, far_receive_read, far_receive_octets}
+use Rattle.bx_far.specs.LiveReceipts.{is_at_once, far_ticks_now, far_received_live, far_receive_live, far_receive_live_from, far_receive_live_read, far_receive_live_octets}
 use Rattle.bx_far.specs.Policies.{policy_of}
 use Rattle.bx_devices.specs.declared.watched.Watched.{Watched}
 use Rattle.bx_link.specs.Days.{FarTalks, EndsFarDay, RunsFarDay}
@@ -72,6 +73,34 @@ receive_stays d octets = by_read (message_at octets) where
   by_reference m (Value value flag) = by_value m value flag (value == 0)
 
   by_read : (read : Result PlainMessage MessageFault) → Stays d (far_receive_read d read)
+  by_read (Err fault) = refl
+  by_read (Ok m) = by_reference m m.reference
+
+-- on a live line too
+module _ (d : FarDay) (m : Said) (called : Option (List ℕ)) where
+  ticks_stay : (done : Answered FarDay) → Stays d done → (call : Option PlainUserCall) → Stays d (far_ticks_now done call)
+  ticks_stay done stays None = stays
+  ticks_stay done stays (Some call) = stays
+
+  offered_stays : (done : Answered FarDay) → Stays d done → (b : Bool) → Stays d (if b then far_ticks_now done (first_call (far_names m) done.day.calls) else done)
+  offered_stays done stays true = ticks_stay done stays (first_call (far_names m) done.day.calls)
+  offered_stays done stays false = stays
+
+  live_by_call : (call : Option PlainUserCall) → Stays d (far_received_live d m called call)
+  live_by_call None = offered_stays (far_stray d m called m.heard.kind) (stray_stays d m called m.heard.kind) (is_at_once (policy_of d.script called))
+  live_by_call (Some call) = refl
+
+pub live_stays : (d : FarDay) (octets : List ℕ) → Stays d (far_receive_live_octets d octets)
+live_stays d octets = by_read (message_at octets) where
+  by_value : (m : PlainMessage) (value : ℕ) (flag b : Bool) → Stays d (if b then unchanged d None else far_receive_live d (said_of value flag m) (called_of m))
+  by_value m value flag true = refl
+  by_value m value flag false = live_by_call d (said_of value flag m) (called_of m) (first_call (far_names (said_of value flag m)) d.calls)
+
+  by_reference : (m : PlainMessage) (reference : Reference) → Stays d (far_receive_live_from d m reference)
+  by_reference m Dummy = refl
+  by_reference m (Value value flag) = by_value m value flag (value == 0)
+
+  by_read : (read : Result PlainMessage MessageFault) → Stays d (far_receive_live_read d read)
   by_read (Err fault) = refl
   by_read (Ok m) = by_reference m m.reference
 

@@ -6,7 +6,7 @@ use Rattle.bx_frames.specs.declared.fault.LinkFault.{LinkFault}
 use Rattle.bx_frames.specs.declared.frame.Frame.{Frame}
 use Rattle.bx_frames.specs.declared.frame.Frame.TheVariants as frames
 use Rattle.bx_far.specs.FarDay.{FarDay}
-use Rattle.bx_far.specs.Course.{far_next, far_text}
+use Rattle.bx_far.specs.Course.{far_line_next, far_line_text}
 use Rattle.bx_live.specs.declared.world.Begin.{Begin}
 use Rattle.bx_live.specs.declared.world.Begin.TheVariants as begins
 use Rattle.bx_live.specs.declared.world.Loss.{Loss}
@@ -49,12 +49,12 @@ module _ (d : FarDay) (acts : List Act) where
   KeepsOwed p act = Stands d acts p → Owes d (after_act act) (far_run_next p act)
 
   -- an event that is told by the act, by the day as it is before it
-  told_now : (p : FarPlace) (act : Act) (event : Event) → far_events (act ∷ []) ≡ OnLink event ∷ [] → Stands d acts p → IsFarWrittenFor d (after_act act) (far_text (far_day_at p) event)
+  told_now : (p : FarPlace) (act : Act) (event : Event) → far_events (act ∷ []) ≡ OnLink event ∷ [] → Stands d acts p → IsFarWrittenFor d (after_act act) (far_line_text (far_day_at p) event)
   told_now p act event tells stands = record {
     earlier = far_events acts;
     event = event;
     last = events_on acts (act ∷ []) ∙ ap (λ es. far_events acts ++ es) tells;
-    text = ap (λ (x : FarDay). far_text x event) stands.day;
+    text = ap (λ (x : FarDay). far_line_text x event) stands.day;
   }
 
   owed_begun : (day : FarDay) (begin : Begin) → KeepsOwed (Between day) (Began (day.moment + 1) begin)
@@ -76,7 +76,7 @@ module _ (d : FarDay) (acts : List Act) where
   owed_heard : (day : FarDay) (room : ℕ) (answer : Result Frame LinkFault) → KeepsOwed (Hearing day room) (Read room answer)
   owed_heard day room (Ok (frames.Message octets)) stands =
       let act = Read room (Ok (frames.Message octets)) in
-      owing_owes (far_next day (Receive octets.items)) _ (far_text day (Receive octets.items)) (after_act act) (told_now (Hearing day room) act (Receive octets.items) refl stands)
+      owing_owes (far_line_next day (Receive octets.items)) _ (far_line_text day (Receive octets.items)) (after_act act) (told_now (Hearing day room) act (Receive octets.items) refl stands)
   owed_heard day room (Ok (frames.EndOfTurn said)) stands = either_owes (said == day.moment) day _ _
   owed_heard day room (Ok frames.EndOfDay) stands = tt
   owed_heard day room (Err fault) stands = tt

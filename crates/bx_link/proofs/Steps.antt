@@ -1,11 +1,17 @@
 -- Acts of a run, one after another.
-use Rattle.std.proofs.Common.{◌≡◌, ℕ, List, [], ◌∷◌, ◌++◌, refl, sym, ap, ◌∙◌, subst, true, false, Bool, Ok, ◌==◌, if◌then◌else◌, arith}
+use Rattle.std.proofs.Common.{◌≡◌, ℕ, List, [], ◌∷◌, ◌++◌, refl, sym, ap, ◌∙◌, subst, true, false, Bool, Option, Some, None, option_map, unwrap_or, is_some, Ok, ◌==◌, if◌then◌else◌, arith}
+use Rattle.std.proofs.lemmas.Bool.{false≢true}
 use Rattle.std.proofs.lemmas.Bool.Decides.{nat_tests}
+use Rattle.std.proofs.lemmas.List.{append-nil}
 use Rattle.arrayvec.specs.ArrayVec.{ArrayVec}
-use Rattle.bx_events.specs.Events.{Event}
-use Rattle.bx_far.specs.Course.{far_next, far_text}
+use Rattle.bx_events.specs.Events.{Event, Receive}
+use Rattle.bx_far.specs.Course.{far_line_next, far_line_text}
 use Rattle.bx_far.specs.FarDay.{FarDay}
-use Rattle.bx_frames.specs.Frames.{frames_of, turn_frame}
+use Rattle.bx_far.specs.LiveReceipts.{far_receive_live_octets}
+use Rattle.bx_frames.specs.Courses.{reply_frame}
+use Rattle.bx_frames.specs.Frames.{frames_of, message_frame, turn_frame}
+use Rattle.bx_calls.specs.Sending.{reply_list, spelled}
+use Rattle.bx_q931.specs.Outgoing.{Outgoing, out_octets}
 use Rattle.bx_frames.specs.declared.fault.LinkFault.TheVariants.{WrongMoment}
 use Rattle.bx_frames.specs.declared.frame.Frame.TheVariants as frames
 use Rattle.bx_live.specs.declared.world.Loss.TheVariants as losses
@@ -53,9 +59,26 @@ pub owing_same : (d d1 : FarDay) (room : ℕ) (text text1 : List ℕ) → d ≡ 
 owing_same d d1 room text text1 day octets = ap (λ x. Owing x room text) day ∙ ap (λ x. Owing d1 room x) octets
 
 -- a run from there
-pub owed_after : {W : Type 0} {did : W → List Act → W → Type 0} {u v : W} {p : FarPlace} (d d1 : FarDay) (event : Event) (room : ℕ) (text : List ℕ) → d1 ≡ far_next d event → text ≡ far_text d event → FarRuns did u v (far_owing d1 room text) p → FarRuns did u v (far_owing (far_next d event) room (far_text d event)) p
+pub owed_after : {W : Type 0} {did : W → List Act → W → Type 0} {u v : W} {p : FarPlace} (d d1 : FarDay) (event : Event) (room : ℕ) (text : List ℕ) → d1 ≡ far_line_next d event → text ≡ far_line_text d event → FarRuns did u v (far_owing d1 room text) p → FarRuns did u v (far_owing (far_line_next d event) room (far_line_text d event)) p
 owed_after d d1 event room text day octets run =
-    from_place (far_owing d1 room text) (far_owing (far_next d event) room (far_text d event)) (ap (λ x. far_owing x room text) day ∙ ap (λ x. far_owing (far_next d event) room x) octets) run
+    from_place (far_owing d1 room text) (far_owing (far_line_next d event) room (far_line_text d event)) (ap (λ x. far_owing x room text) day ∙ ap (λ x. far_owing (far_line_next d event) room x) octets) run
+
+-- the frame of the reply to a message
+reply_written : (reply : Option (ArrayVec ℕ)) (said : Option Outgoing) → option_map (λ o. o.items) reply ≡ option_map out_octets said → reply_frame reply ≡ frames_of (spelled (reply_list said))
+reply_written None None e = refl
+reply_written None (Some o) e = absurd (false≢true (ap is_some e))
+reply_written (Some reply) None e = absurd (false≢true (sym (ap is_some e)))
+reply_written (Some reply) (Some o) e = ap (λ xs. message_frame (unwrap_or xs [])) e ∙ sym (append-nil (message_frame (out_octets o)))
+
+-- a run from there, where the message was heard as these octets
+pub answered_after : {W : Type 0} {did : W → List Act → W → Type 0} {u v : W} {p : FarPlace} (d d1 : FarDay) (octets heard : List ℕ) (room : ℕ) (reply : Option (ArrayVec ℕ))
+    → heard ≡ octets → d1 ≡ (far_receive_live_octets d heard).day → option_map (λ o. o.items) reply ≡ option_map out_octets (far_receive_live_octets d heard).reply
+    → FarRuns did u v (far_owing d1 room (reply_frame reply)) p → FarRuns did u v (far_owing (far_line_next d (Receive octets)) room (far_line_text d (Receive octets))) p
+answered_after d d1 octets heard room reply same day said run =
+    owed_after d d1 (Receive octets) room (reply_frame reply)
+    (day ∙ ap (λ xs. (far_receive_live_octets d xs).day) same)
+    (reply_written reply (far_receive_live_octets d octets).reply (said ∙ ap (λ xs. option_map out_octets (far_receive_live_octets d xs).reply) same))
+    run
 
 -- ---- an end of turn
 

@@ -6,7 +6,7 @@ use Rattle.bx_frames.specs.declared.fault.LinkFault.{LinkFault}
 use Rattle.bx_frames.specs.declared.frame.Frame.{Frame}
 use Rattle.bx_frames.specs.declared.frame.Frame.TheVariants as frames
 use Rattle.bx_far.specs.FarDay.{FarDay}
-use Rattle.bx_far.specs.Course.{far_next, far_live_next, far_text}
+use Rattle.bx_far.specs.Course.{far_line_next, far_live_next, far_line_text}
 use Rattle.bx_live.specs.declared.world.Begin.{Begin}
 use Rattle.bx_live.specs.declared.world.Begin.TheVariants as begins
 use Rattle.bx_live.specs.declared.world.Loss.{Loss}
@@ -20,7 +20,7 @@ use Rattle.bx_link.proofs.Days.{far_after, step_day}
 
 -- what is told for acts
 abbrev far_told : List Act → FarDay → List ℕ
-far_told acts d = told_on_link far_live_next far_text (far_events acts) d
+far_told acts d = told_on_link far_live_next far_line_text (far_events acts) d
 
 -- ---- one act, and more
 
@@ -29,8 +29,8 @@ more_written (Wrote octets true) acts = ap (λ xs. xs ++ written acts) (sym (app
 more_written act acts = refl
 
 more_told : (act : Act) (acts : List Act) (d : FarDay) → far_told (act ∷ acts) d ≡ far_told (act ∷ []) d ++ far_told acts (far_after (act ∷ []) d)
-more_told (Began second begins.Joined) acts d = ap (λ xs. xs ++ far_told acts (far_next d Tick)) (sym (append-nil (far_text d Tick)))
-more_told (Read room (Ok (frames.Message octets))) acts d = ap (λ xs. xs ++ far_told acts (far_next d (Receive octets.items))) (sym (append-nil (far_text d (Receive octets.items))))
+more_told (Began second begins.Joined) acts d = ap (λ xs. xs ++ far_told acts (far_line_next d Tick)) (sym (append-nil (far_line_text d Tick)))
+more_told (Read room (Ok (frames.Message octets))) acts d = ap (λ xs. xs ++ far_told acts (far_line_next d (Receive octets.items))) (sym (append-nil (far_line_text d (Receive octets.items))))
 more_told act acts d = refl
 
 first_well : (act : Act) (acts : List Act) → goes_well (act ∷ acts) ≡ true → goes_well (act ∷ []) ≡ true
@@ -51,7 +51,7 @@ abbrev Tells : FarPlace → Act → Type 0
 Tells p act = goes_well (act ∷ []) ≡ true → written (act ∷ []) ++ far_owed_at (far_run_next p act) ≡ far_owed_at p ++ far_told (act ∷ []) (far_day_at p)
 
 tells_begun : (d : FarDay) (begin : Begin) → Tells (Between d) (Began (d.moment + 1) begin)
-tells_begun d begins.Joined well = sym (append-nil (far_text d Tick))
+tells_begun d begins.Joined well = sym (append-nil (far_line_text d Tick))
 tells_begun d begin well = refl
 
 tells_wrote : (d : FarDay) (room : ℕ) (text : List ℕ) (done : Bool) → Tells (Owing d room text) (Wrote text done)
@@ -67,7 +67,7 @@ either_owed true d loss = refl
 either_owed false d loss = refl
 
 tells_heard : (d : FarDay) (room : ℕ) (answer : Result Frame LinkFault) → Tells (Hearing d room) (Read room answer)
-tells_heard d room (Ok (frames.Message octets)) well = owes_text (far_next d (Receive octets.items)) _ (far_text d (Receive octets.items))
+tells_heard d room (Ok (frames.Message octets)) well = owes_text (far_line_next d (Receive octets.items)) _ (far_line_text d (Receive octets.items))
 tells_heard d room (Ok (frames.EndOfTurn said)) well = either_owed (said == d.moment) d _
 tells_heard d room (Ok frames.EndOfDay) well = refl
 tells_heard d room (Err fault) well = refl

@@ -5,7 +5,7 @@ use Rattle.bx_frames.specs.declared.fault.LinkFault.{LinkFault}
 use Rattle.bx_live.specs.declared.world.Loss.TheVariants as losses
 use Rattle.bx_link.specs.Runs.{FarPlace, Losing, Hearing, far_owing}
 use Rattle.bx_events.specs.Events.{Event}
-use Rattle.bx_far.specs.Course.{far_next, far_text}
+use Rattle.bx_far.specs.Course.{far_line_next, far_line_text}
 use Rattle.bx_live.specs.Acts.{Act}
 use Rattle.bx_link.specs.Running.{FarRuns}
 
@@ -18,4 +18,4 @@ or_losing place d (Err fault) = Losing d (losses.Fault fault)
 abbrev pub AnswersInRun : {W : Type 0} → (W → List Act → W → Type 0) → W → W → FarDay → Event → FarDay → Result (Unit {0}) LinkFault → Type 0
 AnswersInRun did old new d event d' result =
     (room : ℕ) →
-    FarRuns did old new (far_owing (far_next d event) room (far_text d event)) (or_losing (Hearing d' room) d' result)
+    FarRuns did old new (far_owing (far_line_next d event) room (far_line_text d event)) (or_losing (Hearing d' room) d' result)

@@ -1,5 +1,5 @@
 -- What each end has kept of the events that it went through.
-use Rattle.std.specs.Prelude.{ℕ, ◌-◌, List, Bool, Option, Result, ◌≡◌, false}
+use Rattle.std.specs.Prelude.{ℕ, List, Bool, Option, Result, ◌≡◌, false}
 use Rattle.bx_devices.specs.declared.watched.Watched.{Watched}
 use Rattle.bx_events.specs.Events.{Event}
 use Rattle.bx_far.specs.FarDay.{FarDay}

@@ -2,7 +2,7 @@
 use Rattle.std.specs.Prelude.{◌≡◌, ℕ, Bool, true, false, List, ◌∷◌, ◌++◌, min, max}
 use Rattle.bx_events.specs.declared.moment.TheConstants.{LAST_MOMENT}
 use Rattle.bx_far.specs.FarDay.{FarDay}
-use Rattle.bx_far.specs.Course.{far_live_next, far_live_after, far_text}
+use Rattle.bx_far.specs.Course.{far_live_next, far_live_after, far_line_text}
 use Rattle.bx_live.specs.Acts.{Act, Wrote, ended}
 use Rattle.bx_live.specs.Written.{written, goes_well}
 use Rattle.bx_link.specs.Events.{far_events, told_on_link}
@@ -23,7 +23,7 @@ IsAllWritten =
     (from to : FarPlace) (acts : List Act) →
     IsFarRun from acts to →
     goes_well acts ≡ true →
-    written acts ++ far_owed_at to ≡ far_owed_at from ++ told_on_link far_live_next far_text (far_events acts) (far_day_at from)
+    written acts ++ far_owed_at to ≡ far_owed_at from ++ told_on_link far_live_next far_line_text (far_events acts) (far_day_at from)
 
 -- a day was run up to this second: it went on by the events of the run, and reached the second unless the run was over before it
 abbrev pub RunsFarDayTo : {W : Type 0} → (W → List Act → W → Type 0) → ℕ → W → W → FarDay → FarDay → Type 0

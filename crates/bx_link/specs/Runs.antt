@@ -7,7 +7,7 @@ use Rattle.bx_frames.specs.declared.frame.Frame.{Frame}
 use Rattle.bx_frames.specs.declared.frame.Frame.TheVariants as frames
 use Rattle.bx_frames.specs.declared.turn.TheConstants.{MAX_MESSAGES}
 use Rattle.bx_far.specs.FarDay.{FarDay, far_without_link}
-use Rattle.bx_far.specs.Course.{far_next, far_text}
+use Rattle.bx_far.specs.Course.{far_line_next, far_line_text}
 use Rattle.bx_live.specs.declared.world.Begin.{Begin}
 use Rattle.bx_live.specs.declared.world.Begin.TheVariants as begins
 use Rattle.bx_live.specs.declared.world.Loss.{Loss}
@@ -58,12 +58,12 @@ far_owing d room (octet ∷ text) = Owing d room (octet ∷ text)
 abbrev pub far_run_begun : FarDay → Begin → FarPlace
 far_run_begun d begins.Late = Losing (far_without_link d) losses.Late
 far_run_begun d begins.Alone = Between (far_without_link d)
-far_run_begun d begins.Joined = Owing (far_next d Tick) MAX_MESSAGES (far_text d Tick)
+far_run_begun d begins.Joined = Owing (far_line_next d Tick) MAX_MESSAGES (far_line_text d Tick)
 far_run_begun d begins.Ended = Ending d
 
 -- the exchange's turn ends with its end of turn, which has the moment
 abbrev pub far_run_heard : FarDay → ℕ → Result Frame LinkFault → FarPlace
-far_run_heard d room (Ok (frames.Message octets)) = far_owing (far_next d (Receive octets.items)) (room - 1) (far_text d (Receive octets.items))
+far_run_heard d room (Ok (frames.Message octets)) = far_owing (far_line_next d (Receive octets.items)) (room - 1) (far_line_text d (Receive octets.items))
 far_run_heard d room (Ok (frames.EndOfTurn said)) = if said == d.moment then Between d else Losing d (losses.Fault WrongMoment)
 far_run_heard d room (Ok frames.EndOfDay) = Losing d (losses.Fault UnknownKind)
 far_run_heard d room (Err fault) = Losing d (losses.Fault fault)

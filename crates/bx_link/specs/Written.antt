@@ -2,7 +2,7 @@
 use Rattle.std.specs.Prelude.{◌≡◌, ℕ, List, [], ◌∷◌, ◌++◌}
 use Rattle.bx_events.specs.Events.{Event, LiveEvent, OnLink}
 use Rattle.bx_far.specs.FarDay.{FarDay}
-use Rattle.bx_far.specs.Course.{far_live_after, far_text}
+use Rattle.bx_far.specs.Course.{far_live_after, far_line_text}
 use Rattle.bx_live.specs.Acts.{Act}
 use Rattle.bx_link.specs.Events.{far_events}
 use Rattle.bx_link.specs.Runs.{FarPlace, Between, Owing, Hearing, Losing, Ending, Done}
@@ -13,7 +13,7 @@ pub record IsFarWrittenFor (d : FarDay) (acts : List Act) (octets : List ℕ) : 
   pub earlier : List LiveEvent
   pub event : Event
   pub last : far_events acts ≡ earlier ++ OnLink event ∷ []
-  pub text : octets ≡ far_text (far_live_after earlier d) event
+  pub text : octets ≡ far_line_text (far_live_after earlier d) event
 
 -- what is still to be written
 abbrev pub far_owed_at : FarPlace → List ℕ

@@ -3,7 +3,7 @@
 ghost use Rattle.std.specs.Prelude.{◌≤◌, min, max};
 ghost use Rattle.bx_events.specs.Events.{Tick};
 ghost use Rattle.bx_frames.specs.declared.turn.TheConstants.{MAX_MESSAGES};
-ghost use Rattle.bx_far.specs.Course.{far_next, far_text};
+ghost use Rattle.bx_far.specs.Course.{far_line_next, far_line_text};
 ghost use Rattle.bx_link.specs.Runs.{Between, Owing};
 ghost use Rattle.bx_link.specs.Running.{FarRuns};
 ghost use Rattle.bx_link.specs.Seconds.{far_after_second, Rises, FarRisesBySecond, IsSaid};
@@ -19,7 +19,7 @@ use bx_live::{Begin, Loss, Second, World};
 
 /// Both halves of a turn.
 fn run_turn<W: World>(far: &mut Far, world: &mut W) -> Result<(), LinkFault>
-    ensures ran { FarRuns W.did world.old world.new (Owing (far_next far.old Tick) MAX_MESSAGES (far_text far.old Tick))
+    ensures ran { FarRuns W.did world.old world.new (Owing (far_line_next far.old Tick) MAX_MESSAGES (far_line_text far.old Tick))
         (or_losing (Between far.new) far.new result) }
     ensures moment { Rises far.old far.new }
 {
@@ -29,7 +29,7 @@ fn run_turn<W: World>(far: &mut Far, world: &mut W) -> Result<(), LinkFault>
 
 /// The next second with a link. A fault drops it.
 fn pass_with_link<W: World>(far: &mut Far, world: &mut W)
-    ensures ran { FarRuns W.did world.old world.new (Owing (far_next far.old Tick) MAX_MESSAGES (far_text far.old Tick)) (Between far.new) }
+    ensures ran { FarRuns W.did world.old world.new (Owing (far_line_next far.old Tick) MAX_MESSAGES (far_line_text far.old Tick)) (Between far.new) }
     ensures moment { Rises far.old far.new }
 {
     match run_turn(far, world) {

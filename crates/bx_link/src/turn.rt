@@ -3,7 +3,7 @@
 ghost use Rattle.std.specs.Prelude.{◌≡◌};
 ghost use Rattle.bx_events.specs.Events.{Tick, Receive};
 ghost use Rattle.bx_frames.specs.declared.turn.TheConstants.{MAX_MESSAGES};
-ghost use Rattle.bx_far.specs.Course.{far_next, far_text};
+ghost use Rattle.bx_far.specs.Course.{far_line_next, far_line_text};
 ghost use Rattle.bx_link.specs.Runs.{Owing, Hearing};
 ghost use Rattle.bx_link.specs.Running.{FarRuns};
 ghost use Rattle.bx_link.specs.Inside.{or_losing, AnswersInRun};
@@ -15,9 +15,9 @@ use bx_q931::Octets;
 
 /// The next second, and what is sent in it.
 pub(crate) fn open_turn<W: World>(far: &mut Far, world: &mut W) -> Result<(), LinkFault>
-    ensures ran { FarRuns W.did world.old world.new (Owing (far_next far.old Tick) MAX_MESSAGES (far_text far.old Tick))
+    ensures ran { FarRuns W.did world.old world.new (Owing (far_line_next far.old Tick) MAX_MESSAGES (far_line_text far.old Tick))
         (or_losing (Hearing far.new MAX_MESSAGES) far.new result) }
-    ensures day { far.new ≡ far_next far.old Tick }
+    ensures day { far.new ≡ far_line_next far.old Tick }
 {
     let sent = End::<Far>::next_second(far);
     match world.write_turn(sent.as_slice(), far.moment()) {
@@ -33,9 +33,9 @@ pub(crate) fn answer<W: World>(
     message: &Octets,
 ) -> Result<(), LinkFault>
     ensures ran { AnswersInRun W.did world.old world.new far.old (Receive message.now.items) far.new result }
-    ensures day { far.new ≡ far_next far.old (Receive message.now.items) }
+    ensures day { far.new ≡ far_line_next far.old (Receive message.now.items) }
 {
-    match End::<Far>::hear(far, message) {
+    match far.receive_live(message.as_slice()) {
         Some(reply) => match world.write_message(&reply) {
             Ok(()) => Ok(()),
             Err(_) => Err(LinkFault::WriteFailed),

@@ -1,6 +1,6 @@
 //! Days of 20 seconds on which the far end sends more in a second than one takes: the rest waits, and nothing is lost.
 
-use crate::wire::{Manner, MemoryWire};
+use crate::wire::{Hears, Manner, MemoryWire};
 use bx_day::Outcome;
 use bx_journal::MemoryDisk;
 use bx_line_world::{Line, LineWorld, run_by_line};
@@ -63,6 +63,7 @@ fn run(alloc: Global, count: u32) -> Option<(Heard, Outcome)> {
         release: 0,
         flood: (3, count),
         jump: None,
+        hears: Hears::Rehearsed,
     };
     let wire = MemoryWire::new(alloc, far_end(alloc)?, manner);
     let log = Log {

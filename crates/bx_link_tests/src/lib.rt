@@ -39,6 +39,8 @@ mod live_days;
 #[cfg(test)]
 mod printed_faults;
 #[cfg(test)]
+mod prompt_answers;
+#[cfg(test)]
 mod rehearsals;
 #[cfg(test)]
 mod resets;

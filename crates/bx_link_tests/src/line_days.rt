@@ -1,7 +1,7 @@
 //! Days of 12 seconds with one booking, from 2 to 8 on channel 1, whose call the far end answers in the next second.
 
 use crate::letters::LetterDisk;
-use crate::wire::{Manner, MemoryWire};
+use crate::wire::{Hears, Manner, MemoryWire};
 use bx_day::Outcome;
 use bx_journal::MemoryDisk;
 use bx_line_world::{Line, LineWorld, run_by_line};
@@ -99,6 +99,7 @@ fn run(alloc: Global, losses: &Losses, jump: Jump) -> Option<(Vec<u8>, Outcome, 
         release: 0,
         flood: (0, 0),
         jump,
+        hears: Hears::Rehearsed,
     };
     let wire = MemoryWire::new(alloc, far_end(alloc)?, manner);
     let log = Log {
@@ -214,6 +215,7 @@ fn stops(alloc: Global, calls: u32, moment: u32, letters: &[u8]) -> Option<bool>
         release: 0,
         flood: (0, 0),
         jump: None,
+        hears: Hears::Rehearsed,
     };
     let wire = MemoryWire::new(alloc, far_end(alloc)?, manner);
     let log = Log {

@@ -1,6 +1,6 @@
 //! What a day is told where the far end asks for the link anew, or releases it, in the third second, and where the day was started again.
 
-use crate::wire::{Manner, MemoryWire};
+use crate::wire::{Hears, Manner, MemoryWire};
 use bx_frames::{Frame, LinkFault};
 use bx_journal::MemoryDisk;
 use bx_line_world::{Line, LineWorld};
@@ -86,6 +86,7 @@ fn told(alloc: Global, reset: &Reset) -> Option<[Told; 4]> {
         release: reset.2,
         flood: (0, 0),
         jump: None,
+        hears: Hears::Rehearsed,
     };
     let wire = MemoryWire::new(alloc, far_end(alloc)?, manner);
     let line = Line::new(true, wire).going_on(reset.4);

@@ -16,8 +16,8 @@ const SECOND: u64 = 1_000_000_000;
 const DELAY: u64 = 20_000_000;
 
 /// Of a thousand frames so many are lost, as a seed draws them; between two seconds all are; in the middle of some second, if any, the far
-/// end asks for its link anew, or releases it; in some second, if any, it begins to send so many messages of 260 octets that mean nothing; and at
-/// some millisecond, if any, the clock jumps to another.
+/// end asks for its link anew, or releases it; in some second, if any, it begins to send so many messages of 260 octets that mean nothing; at
+/// some millisecond, if any, the clock jumps to another; and how the far end hears.
 #[derive(Clone, Copy)]
 pub struct Manner {
     pub loss: u64,
@@ -27,6 +27,14 @@ pub struct Manner {
     pub release: u64,
     pub flood: (u64, u32),
     pub jump: Option<(u64, u64)>,
+    pub hears: Hears,
+}
+
+/// How the far end hears: as in a rehearsal, or as on a live line, on which some calls are answered at once.
+#[derive(Clone, Copy)]
+pub enum Hears {
+    Rehearsed,
+    Live,
 }
 
 /// A frame on its way, and when it is there.
@@ -117,12 +125,20 @@ impl MemoryWire {
         }
     }
 
+    /// What the far end answers to a message.
+    fn hear(&mut self, message: &Octets) -> Option<Octets> {
+        match self.manner.hears {
+            Hears::Rehearsed => self.far.receive(message.as_slice()),
+            Hears::Live => self.far.receive_live(message.as_slice()),
+        }
+    }
+
     /// What the far end's link wants, and what its day answers.
     fn carry_out(&mut self, done: &Done) {
         self.send_frames(done);
         for told in done.told() {
             if let Indication::Delivered(message) = told
-                && let Some(reply) = self.far.receive(message.as_slice())
+                && let Some(reply) = self.hear(message)
             {
                 self.give(reply);
             }

@@ -27,7 +27,7 @@ loop-octets-preserved g c =
     record {
       within = omega (arith, l.invariant.within);
       limit = l.invariant.limit;
-      reached = hearing_stays l.far c.answer.new.far message.items answered.day (omega (arith, l.invariant.reached, l.invariant.limit)) ∙ l.invariant.reached;
+      reached = hearing_stays l.far c.answer.new.far message.items answered.day ∙ l.invariant.reached;
       begun = l.invariant.begun;
       so_far = then_done g.met.W.World.did_more l.invariant.so_far
           (then_done g.met.W.World.did_more (one_done (Hearing l.far l.room) (Read l.room (Ok (frames.Message message))) frame.read refl) (answered.ran (l.room - 1)));
@@ -53,7 +53,7 @@ returns-in_err-answer-in-Message-clause-ran g c =
 pub returns-in_err-answer-in-Message-clause-moment : goal.returns-in_err-answer-in-Message-clause-moment
 returns-in_err-answer-in-Message-clause-moment g c =
     let l = c.loop-octets in
-    hearing_stays l.far c.answer.new.far c.in-Message.octets.items c.in_err-answer-in-Message.ensures.day (omega (arith, l.invariant.reached, l.invariant.limit)) ∙ (l.invariant.reached ∙ l.invariant.begun)
+    hearing_stays l.far c.answer.new.far c.in-Message.octets.items c.in_err-answer-in-Message.ensures.day ∙ (l.invariant.reached ∙ l.invariant.begun)
 
 pub returns-then-said-moment-clause-ran : goal.returns-then-said-moment-clause-ran
 returns-then-said-moment-clause-ran g c =
