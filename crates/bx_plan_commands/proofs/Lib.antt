@@ -3,6 +3,7 @@ pub mod Fewer
 pub mod Refusals
 mod Readings
 mod NotedRows
+mod FoundEnds
 mod NamedDays
 mod SecondHalves
 mod Drawing

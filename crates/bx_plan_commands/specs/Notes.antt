@@ -1,6 +1,10 @@
--- The note on accepted bookings that no day carries: they last one second, and begin in second 0 or right after another on their channel.
+-- The note on accepted bookings that may be too short to be carried on a live line.
 use Rattle.std.specs.Prelude.{◌≡◌, ◌⊎◌, ℕ, zero, suc, ◌+◌, ◌==◌, ◌&&◌, ◌||◌, Bool, true, false, List, [], ◌∷◌, ◌++◌, length, codes, decimal, Option, Some, None, slice_index_or, if◌then◌else◌}
 use Rattle.std.specs.Io.KnownBytes.{Appends}
+use Rattle.std.specs.List.{list_any}
+use Rattle.std.specs.List.Sorted.{IsPermutation, IsSorted}
+use Rattle.std.specs.Ordering.{nat_cmp, ordering_then}
+use Rattle.std.specs.declared.cmp.Ordering.{Ordering}
 use Rattle.bx_base.specs.Bookings.{Row, row_at}
 use Rattle.bx_base.specs.PlanParts.{Parts}
 use Rattle.bx_devices.specs.Devices.{Writing}
@@ -8,27 +12,45 @@ use Rattle.bx_devices.specs.Octets.{AppendsPrefix}
 
 -- ---- which bookings
 
--- a booking with this channel, if the plan accepts it, is on that one and ends at this second
-abbrev pub ends_with : Option ℕ → Row → ℕ → ℕ → Bool
-ends_with None row channel second = false
-ends_with (Some c) row channel second = (c == channel) && (row.end == second)
+-- the channel and the end of a row with this channel, if the plan accepts it
+abbrev pub end_on : Option ℕ → Row → List (ℕ × ℕ)
+end_on None row = []
+end_on (Some channel) row = (channel, row.end) ∷ []
 
--- the row at i does
-abbrev pub ends_so : Parts → ℕ → ℕ → ℕ → Bool
-ends_so plan channel second i = ends_with (slice_index_or plan.assigned i None) (row_at plan.rows i) channel second
+-- those of the accepted ones of the first n rows
+abbrev pub ends_below : Parts → ℕ → List (ℕ × ℕ)
+ends_below plan zero = []
+ends_below plan (suc n) = ends_below plan n ++ end_on (slice_index_or plan.assigned n None) (row_at plan.rows n)
 
--- one of the first n rows does
-abbrev pub some_ends : Parts → ℕ → ℕ → ℕ → Bool
-some_ends plan channel second zero = false
-some_ends plan channel second (suc n) = some_ends plan channel second n || ends_so plan channel second n
+abbrev pub is_end_at : ℕ → ℕ → ℕ × ℕ → Bool
+is_end_at channel second end = (end.0 == channel) && (end.1 == second)
 
+-- an accepted row ends on this channel at this second
+abbrev pub some_ends : Parts → ℕ → ℕ → Bool
+some_ends plan channel second = list_any (is_end_at channel second) (ends_below plan (length plan.rows))
+
+abbrev pub lasts : Row → ℕ → Bool
+lasts row seconds = row.end == row.start + seconds
+
+-- a row with this channel, if the plan accepts it, lasts one second; or two, and is inward, begins in second 0, or where another ends
 abbrev pub is_short_on : Parts → Option ℕ → Row → Bool
 is_short_on plan None row = false
-is_short_on plan (Some channel) row = (row.end == row.start + 1) && ((row.start == 0) || some_ends plan channel row.start (length plan.rows))
+is_short_on plan (Some channel) row = lasts row 1 || (lasts row 2 && (row.inward || (row.start == 0) || some_ends plan channel row.start))
 
--- the row at i is accepted, lasts one second, and begins in second 0, or where another ends on its channel
+-- the row at i may be too short to be carried on a live line
 abbrev pub is_too_short : Parts → ℕ → Bool
 is_too_short plan i = is_short_on plan (slice_index_or plan.assigned i None) (row_at plan.rows i)
+
+-- ---- how such a booking is found
+
+-- by channel, and on one channel by the second
+abbrev pub end_cmp : ℕ × ℕ → ℕ × ℕ → Ordering
+end_cmp a b = ordering_then (nat_cmp a.0 b.0) (nat_cmp a.1 b.1)
+
+-- the ends of all accepted rows, in that order
+pub record AreEnds (plan : Parts) (ends : List (ℕ × ℕ)) : Type 0 where
+  pub all : IsPermutation (ends_below plan (length plan.rows)) ends
+  pub sorted : IsSorted end_cmp ends
 
 -- ---- the note
 
@@ -46,7 +68,7 @@ note_below plan zero = []
 note_below plan (suc n) = note_below plan n ++ (if is_too_short plan n then row_text (is_begun plan n) (n + 1) else [])
 
 abbrev pub note_end : Bool → List ℕ
-note_end is_begun = if is_begun then codes " last one second behind another on their channel, or in second 0\n" else []
+note_end is_begun = if is_begun then codes " may be too short to be carried on a live line\n" else []
 
 -- the whole of it; nothing where no row is to be noted
 abbrev pub note_text : Parts → List ℕ

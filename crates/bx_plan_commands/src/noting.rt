@@ -1,56 +1,72 @@
-//! The note on bookings of one second that are accepted and for which no second is left.
+//! The note on accepted bookings that may be too short to be carried on a live line.
 
 ghost use Rattle.std.specs.Prelude.{◌≡◌, ◌<◌, ◌≤◌, ◌+◌, length};
+ghost use Rattle.std.specs.List.{list_any};
+ghost use Rattle.std.specs.List.Sorted.{IsSorted};
 ghost use Rattle.bx_base.specs.PlanParts.{parts_of};
 ghost use Rattle.bx_devices.specs.Devices.{writing_of};
 ghost use Rattle.bx_text.specs.Gathering.{Gathers, held};
-ghost use Rattle.bx_plan_commands.specs.Notes.{ends_so, some_ends, is_too_short, row_text, note_text, IsNoteWritten};
+ghost use Rattle.bx_plan_commands.specs.Notes.{ends_below, is_end_at, end_cmp, AreEnds, is_too_short, row_text, note_text, IsNoteWritten};
 ghost use Rattle.bx_base.specs.Bookings.{row_at};
 ghost use Rattle.bx_base.specs.declared.bookings.TheConstants.{MAX_BOOKINGS};
 
-use bx_base::Plan;
+use arrayvec::ArrayVec;
+use bx_base::{MAX_BOOKINGS, Plan};
 use bx_channels::Channel;
 use bx_devices::{Watched, WriteFailed};
 use bx_text::{Block, Line, append};
 use itoa::Buffer;
 use std::io::Write;
 
-/// Whether the booking at this place is accepted on this channel and ends at this second.
-fn ends_so(plan: &Plan, index: u16, channel: Channel, second: u32) -> bool
-    requires { index < length plan.now.bookings }
-    ensures { result ≡ ends_so (parts_of plan.now) channel second index }
-{
-    match plan.assigned[index as usize] {
-        Some(other) => {
-            other.number() == channel.number() && plan.bookings.nth(index).end() == second
-        }
-        None => false,
-    }
-}
+/// The channel and the end of each accepted booking. They stand on the stack, since a note takes no memory.
+type Ends = ArrayVec<(u8, u32), MAX_BOOKINGS>;
 
-/// Whether some booking does.
-fn some_ends(plan: &Plan, channel: Channel, second: u32) -> bool
-    ensures { result ≡ some_ends (parts_of plan.now) channel second (length plan.now.bookings) }
+/// The ends in the order of the rows.
+fn ends_of(plan: &Plan) -> Ends
+    ensures { result.items ≡ ends_below (parts_of plan.now) (length plan.now.bookings) }
 {
-    let mut is_found = false;
+    let mut ends = ArrayVec::new();
     for index in 0..plan.bookings.len() {
-        is_found = is_found || ends_so(plan, index, channel, second);
+        if let Some(channel) = plan.assigned[index as usize] {
+            ends.push((channel.number(), plan.bookings.nth(index).end()));
+        }
     }
-    is_found
+    ends
 }
 
-/// Whether the booking at this place is accepted, and lasts one second in which its channel is not free before: second 0, or right
-/// after another booking.
-fn is_too_short(plan: &Plan, index: u16) -> bool
-    requires { index < length plan.now.bookings }
+/// The ends by channel, and on one channel by the second.
+fn sorted_ends(plan: &Plan) -> Ends
+    ensures { AreEnds (parts_of plan.now) result.items }
+{
+    let mut ends = ends_of(plan);
+    ends.as_mut_slice().sort_unstable();
+    ends
+}
+
+/// Whether one of these is the end of a booking on this channel at this second.
+fn some_ends(ends: &[(u8, u32)], channel: Channel, second: u32) -> bool
+    requires { IsSorted end_cmp ends.now }
+    ensures { result ≡ list_any (is_end_at channel second) ends.now }
+{
+    ends.binary_search(&(channel.number(), second)).is_ok()
+}
+
+/// Whether the booking at this place is accepted, and may be too short to be carried on a live line: it lasts one second, or two of
+/// which the first is not its own, since the far end makes the call, or its channel is not free before: second 0, or right after
+/// another booking.
+fn is_too_short(plan: &Plan, ends: &[(u8, u32)], index: u16) -> bool
+    requires row { index < length plan.now.bookings }
+    requires ends { AreEnds (parts_of plan.now) ends.now }
     ensures { result ≡ is_too_short (parts_of plan.now) index }
 {
     let Some(channel) = plan.assigned[index as usize] else {
         return false;
     };
     let booking = plan.bookings.nth(index);
-    let start = booking.start();
-    booking.end() == start + 1 && (start == 0 || some_ends(plan, channel, start))
+    let (start, end) = (booking.start(), booking.end());
+    end == start + 1
+        || end == start + 2
+            && (booking.is_inward() || start == 0 || some_ends(ends, channel, start))
 }
 
 /// The prefix of the note with its first row, or what the next row adds to it.
@@ -69,12 +85,18 @@ fn row_text(is_begun: bool, row: u16) -> Line
 }
 
 /// Puts the note, where a row is to be noted.
-fn put_note<W: Write>(plan: &Plan, block: &mut Block, w: &mut Watched<W>) -> Result<(), WriteFailed>
+fn put_note<W: Write>(
+    plan: &Plan,
+    ends: &[(u8, u32)],
+    block: &mut Block,
+    w: &mut Watched<W>,
+) -> Result<(), WriteFailed>
+    requires { AreEnds (parts_of plan.now) ends.now }
     ensures { Gathers W.contents (held w.old block.old) (held w.new block.new) result (note_text (parts_of plan.now)) }
 {
     let mut is_begun = false;
     for index in 0..plan.bookings.len() {
-        if is_too_short(plan, index) {
+        if is_too_short(plan, ends, index) {
             block.put(w, &row_text(is_begun, index + 1))?;
             is_begun = true;
         }
@@ -82,19 +104,16 @@ fn put_note<W: Write>(plan: &Plan, block: &mut Block, w: &mut Watched<W>) -> Res
     if !is_begun {
         return Ok(());
     }
-    block.put(
-        w,
-        b" last one second behind another on their channel, or in second 0\n",
-    )
+    block.put(w, b" may be too short to be carried on a live line\n")
 }
 
-/// Writes the note on the accepted bookings that last one second, in second 0 or right after another on their channel: no day
-/// carries them. Nothing where there are none. What becomes of the note changes nothing.
+/// Writes the note on the accepted bookings that may be too short to be carried on a live line. Nothing where there are none. It takes no
+/// memory, and what becomes of it changes nothing.
 pub(crate) fn note_too_short<E: Write>(plan: &Plan, errors: &mut Watched<E>)
     ensures { IsNoteWritten (parts_of plan.now) (writing_of E.contents errors.old errors.new) }
 {
     let mut block = Block::new();
-    if put_note(plan, &mut block, errors).is_ok() {
+    if put_note(plan, &sorted_ends(plan), &mut block, errors).is_ok() {
         let _told = block.write_out(errors);
     }
 }

@@ -20,9 +20,8 @@ use bx_request::Terms;
 use std::alloc::Global;
 use std::io::Write;
 
-/// Writes the plan of the bookings of an input, and on standard error a note on the accepted ones that last one second, in second 0 or
-/// right after another on their channel, where there are some. At a refusal nothing was written, except that where the output failed a prefix of
-/// a plan was. `Channels` and `Day` where the words name none, `Command` where the input cannot be opened, and `Run` where the
+/// Writes the plan of the bookings of an input, and on standard error a note on the accepted ones that may be too short to be carried on a
+/// live line, where there are some. At a refusal nothing was written, except that where the output failed a prefix of a plan was. `Channels` and `Day` where the words name none, `Command` where the input cannot be opened, and `Run` where the
 /// planning run is refused.
 pub fn plan_file<'a, I: Inputs, W: Write, E: Write>(
     alloc: Global,

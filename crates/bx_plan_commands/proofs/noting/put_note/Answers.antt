@@ -48,7 +48,7 @@ returns g c =
     let plan = parts_of c.args.plan.now in
     let all : c.loop-index.index ≡ length c.args.plan.now.bookings = omega (arith, c.loop-index-test.false, c.loop-index.auto.index-end, c.len-index-end.ensures.count) in
     let begun : is_begun plan (length plan.rows) ≡ true = ap (is_begun plan) (sym all) ∙ sym c.loop-index.invariant.begun ∙ c.if-not-is_begun.false in
-    let tail : List ℕ = codes " last one second behind another on their channel, or in second 0\n" in
+    let tail : List ℕ = codes " may be too short to be carried on a live line\n" in
     let both = puts_then g.W.Write.contents (held c.args.w.now c.args.block.now) (held c.loop-index.w c.loop-index.block) (held c.put-2.new.w c.put-2.new.self) c.put-2.result (note_below plan c.loop-index.index) tail c.loop-index.invariant.text c.put-2.ensures in
     subst (λ (t : List ℕ). Gathers g.W.Write.contents (held c.args.w.now c.args.block.now) (held c.put-2.new.w c.put-2.new.self) c.put-2.result t)
     (ap (λ (n : ℕ). note_below plan n ++ tail) all ∙ ap (λ (b : Bool). note_below plan (length plan.rows) ++ note_end b) (sym begun)) both
