@@ -5,7 +5,7 @@ ghost use Rattle.bx_live_commands.specs.OfficeRuns.{SellsByLine, StopsSelling};
 
 use crate::by_line::Told;
 use bx_base::ChannelSet;
-use bx_calendar::Day;
+use bx_calendar::{Clock as DayClock, Day};
 use bx_day::Exchange;
 use bx_journal::Disk;
 use bx_journal_files::Resumed;
@@ -28,9 +28,22 @@ pub struct Premises {
     pub day: Day,
 }
 
+/// What an office is opened with on a day that is run to this second: what starts later is not sold.
+fn opened_until(turns: u32, channels: ChannelSet, day: Day, clock: Option<DayClock>) -> Opened
+    ensures { (result.last ≡ turns) × (result.channels ≡ channels) × (result.day ≡ day) × (result.clock ≡ clock) }
+{
+    Opened {
+        channels,
+        day,
+        last: turns,
+        clock,
+    }
+}
+
 /// Runs the rest of a day as `run_by_clock` does, and between two seconds answers who stands at the door: what is sold is logged, and on
-/// the disk, before its customer is told. Answers the exchange at the end of the day, with all that was sold. `CannotLog` where something cannot be
-/// logged, since the journal's disk has failed: nothing more is done or told then.
+/// the disk, before its customer is told, and what starts after the last of these turns is not sold. Answers the exchange at the end of
+/// the day, with all that was sold. `CannotLog` where something cannot be logged, since the journal's disk has failed: nothing more is
+/// done or told then.
 pub fn run_with_office<'a, 'h, H: Clock + Eprint + AllocGlobal, W: Wire + Drop, D: Disk + Drop>(
     rt: &'h H,
     resumed: Resumed<D>,
@@ -58,11 +71,7 @@ pub fn run_with_office<'a, 'h, H: Clock + Eprint + AllocGlobal, W: Wire + Drop, 
     let world = LineWorld::new(schedule, line, log);
     let clock = told.clock();
     let telling = Telling::new(rt, world, clock, told.is_shown);
-    let opened = Opened {
-        channels,
-        day,
-        clock,
-    };
+    let opened = opened_until(turns, channels, day, clock);
     let mut market = OfficeWorld {
         world: telling,
         office: Office::new(rt.alloc(), door, &opened),

@@ -1,11 +1,12 @@
 //! What is answered of a day that runs, each text whole.
 
-use bx_base::ChannelSet;
+use bx_base::{Booking, Bookings, ChannelSet};
 use bx_book::BookFault;
 use bx_calendar::Day;
 use bx_cases::messages::{
     CONNECT, FAR_DISCONNECT_16, FAR_RELEASE_COMPLETE, FAR_RELEASE_COMPLETE_17,
 };
+use bx_channels::Number;
 use bx_day::Exchange;
 use bx_market::Answer;
 use bx_office_world::{
@@ -318,27 +319,55 @@ fn questions_are_answered(rt: HostRuntime) {
     }
 }
 
-/// A batch: its name, how many rows the plan had, what became of its bookings, and what the customer is told.
-type Batch = (&'static str, u16, &'static [Answer], &'static str);
+/// A batch: its name, the last second to which the day is run, how many rows the plan had, its bookings, what became of those that were
+/// offered, and what the customer is told.
+struct Batch {
+    name: &'static str,
+    last: u32,
+    rows: u16,
+    wanted: &'static [(u32, u32)],
+    answers: &'static [Answer],
+    told: &'static str,
+}
 
-static BATCHES: [Batch; 4] = [
-    ("none", 3, &[], "row,answer,plan row,reason\n"),
-    (
-        "one",
-        0,
-        &[Answer::Accepted],
-        "row,answer,plan row,reason\n1,accepted,1,\n",
-    ),
-    (
-        "the last row of a plan",
-        15999,
-        &[Answer::Accepted, Answer::Refused(NoSale::Full)],
-        "row,answer,plan row,reason\n1,accepted,16000,\n2,refused,,Full\n",
-    ),
-    (
-        "some",
-        3,
-        &[
+static BATCHES: [Batch; 8] = [
+    Batch {
+        name: "none",
+        last: 86438,
+        rows: 3,
+        wanted: &[],
+        answers: &[],
+        told: "row,answer,plan row,reason\n",
+    },
+    Batch {
+        name: "one",
+        last: 86438,
+        rows: 0,
+        wanted: &[(100, 160)],
+        answers: &[Answer::Accepted],
+        told: "row,answer,plan row,reason\n1,accepted,1,\n",
+    },
+    Batch {
+        name: "the last row of a plan",
+        last: 86438,
+        rows: 15999,
+        wanted: &[(100, 160), (100, 160)],
+        answers: &[Answer::Accepted, Answer::Refused(NoSale::Full)],
+        told: "row,answer,plan row,reason\n1,accepted,16000,\n2,refused,,Full\n",
+    },
+    Batch {
+        name: "some",
+        last: 86438,
+        rows: 3,
+        wanted: &[
+            (1, 160),
+            (100, 160),
+            (100, 160),
+            (100, 160),
+            (170, 180),
+            (190, 200),
+        ],
+        answers: &[
             Answer::Refused(NoSale::Late),
             Answer::Accepted,
             Answer::Refused(NoSale::NoChannel),
@@ -346,24 +375,74 @@ static BATCHES: [Batch; 4] = [
             Answer::Accepted,
             Answer::Refused(NoSale::Memory),
         ],
-        "row,answer,plan row,reason\n1,refused,,Late\n2,accepted,4,\n3,refused,,NoChannel\n4,refused,,OtherChannels\n5,accepted,5,\n6,refused,,Memory\n",
-    ),
+        told: "row,answer,plan row,reason\n1,refused,,Late\n2,accepted,4,\n3,refused,,NoChannel\n4,refused,,OtherChannels\n5,accepted,5,\n6,refused,,Memory\n",
+    },
+    Batch {
+        name: "of one, two and three seconds",
+        last: 86438,
+        rows: 3,
+        wanted: &[(100, 101), (110, 112), (120, 123), (130, 131)],
+        answers: &[
+            Answer::Accepted,
+            Answer::Accepted,
+            Answer::Accepted,
+            Answer::Refused(NoSale::NoChannel),
+        ],
+        told: "row,answer,plan row,reason\n1,accepted,4,TooShort\n2,accepted,5,TooShort\n3,accepted,6,\n4,refused,,NoChannel\n",
+    },
+    Batch {
+        name: "in the last second, and after it",
+        last: 600,
+        rows: 3,
+        wanted: &[(601, 700), (600, 700), (602, 603), (599, 700)],
+        answers: &[Answer::Accepted, Answer::Refused(NoSale::NoChannel)],
+        told: "row,answer,plan row,reason\n1,refused,,AfterTheDay\n2,accepted,4,\n3,refused,,AfterTheDay\n4,refused,,NoChannel\n",
+    },
+    Batch {
+        name: "none within the day",
+        last: 600,
+        rows: 3,
+        wanted: &[(601, 700)],
+        answers: &[],
+        told: "row,answer,plan row,reason\n1,refused,,AfterTheDay\n",
+    },
+    Batch {
+        name: "one without an answer",
+        last: 86438,
+        rows: 3,
+        wanted: &[(100, 160), (170, 180)],
+        answers: &[Answer::Accepted],
+        told: "row,answer,plan row,reason\n1,accepted,4,\n2,refused,,Memory\n",
+    },
 ];
+
+/// The bookings with these starts and ends.
+fn wanted_of(alloc: Global, seconds: &[(u32, u32)]) -> Option<Bookings> {
+    let number = Number::new(b"1234")?;
+    let mut wanted = Bookings::new(alloc);
+    for (start, end) in seconds {
+        wanted.push(Booking::new(*start, *end, 5, number)?).ok()?;
+    }
+    Some(wanted)
+}
+
+/// What a customer is told of a batch.
+fn told_of(alloc: Global, batch: &Batch) -> Option<Vec<u8>> {
+    let wanted = wanted_of(alloc, batch.wanted)?;
+    sold_text(alloc, batch.last, batch.rows, &wanted, batch.answers).ok()
+}
 
 /// Whether a customer is told this.
 fn is_sold(alloc: Global, batch: &Batch) -> bool {
-    if batch.2.len() > 16000 {
-        return false;
-    }
-    match sold_text(alloc, batch.1, batch.2) {
-        Ok(text) => text.as_slice() == batch.3.as_bytes(),
-        Err(_) => false,
+    match told_of(alloc, batch) {
+        Some(text) => text.as_slice() == batch.told.as_bytes(),
+        None => false,
     }
 }
 
 #[test]
 fn batches_are_told(rt: HostRuntime) {
     for batch in &BATCHES {
-        assert!(rt; is_sold(rt.alloc(), batch), "{}", batch.0);
+        assert!(rt; is_sold(rt.alloc(), batch), "{}", batch.name);
     }
 }

@@ -145,6 +145,7 @@ fn ran(alloc: Global, door: &Rc<RefCell<Door>>, run: Run) -> Option<Ran> {
     let opened = Opened {
         channels: ChannelSet::from_numbers(&[1, 2, 3]).ok()?,
         day: Day::new("2026-01-05", "UTC0").ok()?,
+        last: 600,
         clock: None,
     };
     let exchange = exchange_of(alloc, &ROWS)?;
@@ -174,6 +175,27 @@ fn a_customer_is_sold_to_and_told(rt: HostRuntime) -> Result<(), Fail> {
     let mut customer = client(&rt, alloc, port, "POST /bookings", BATCH)?;
     assert!(rt; ran(alloc, &door, QUIET) == Some((4, 2, 2)), "sold");
     assert!(rt; is_told(&mut customer, SOLD), "told");
+    Ok(())
+}
+
+/// One of two seconds, one that starts in the last second of the day, and one that starts after it.
+const ON_THE_EDGE: &str =
+    "Content-Type: text/csv\r\nContent-Length: 168\r\n\r\nstart,end,number,pay\n2026-01-05T00:01:40Z,2026-01-05T00:01:42Z,1234,5\n2026-01-05T00:10:00Z,2026-01-05T00:11:00Z,1234,5\n2026-01-05T00:10:01Z,2026-01-05T00:11:00Z,1234,9\n";
+
+#[test]
+fn what_is_short_or_after_the_day_is_told(rt: HostRuntime) -> Result<(), Fail> {
+    let alloc = rt.alloc();
+    let (door, port) = opened(&rt, alloc)?;
+    let mut customer = client(&rt, alloc, port, "POST /bookings", ON_THE_EDGE)?;
+    assert!(rt; ran(alloc, &door, QUIET) == Some((4, 2, 2)), "sold");
+    assert!(rt;
+        is_told_so(
+            &mut customer,
+            "HTTP/1.1 200 OK\r\ncontent-type: text/csv; charset=utf-8\r\n",
+            "\r\n\r\nrow,answer,plan row,reason\n1,accepted,3,TooShort\n2,accepted,4,\n3,refused,,AfterTheDay\n"
+        ),
+        "told"
+    );
     Ok(())
 }
 

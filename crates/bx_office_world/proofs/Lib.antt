@@ -3,3 +3,4 @@ pub mod Replies
 pub mod Built
 pub mod CallTimes
 pub mod Pieces
+mod SoldLines

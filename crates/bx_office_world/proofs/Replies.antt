@@ -1,6 +1,5 @@
 -- What a client is told.
-use Rattle.std.proofs.Common.{◌≡◌, sym, subst, ap, ◌∙◌, ℕ, Bool, List, length, take, min, arith}
-use Rattle.std.proofs.lemmas.List.{take_min}
+use Rattle.std.proofs.Common.{◌≡◌, sym, subst, ℕ, Bool, List}
 use Rattle.bx_office_world.specs.declared.metrics.Figures.{Figures}
 use Rattle.bx_day.specs.Day.{Day}
 use Rattle.bx_day_chart.specs.Sights.{Sight}
@@ -25,7 +24,3 @@ replied b desk d query route reply e p = subst (λ (v : Bool). IsReplyTo v desk 
 pub written_as : (opened : Opened) (d : Day) (figures : Figures) (sight : Sight) (q q' : List ℕ) (route : Route) (k k' : Kind) (t t' : List ℕ) → q ≡ q' → k ≡ k' → t ≡ t' → IsWritten opened d figures sight q route k t → IsWritten opened d figures sight q' route k' t'
 written_as opened d figures sight q q' route k k' t t' eq ek et w =
     subst (λ (x : List ℕ). IsWritten opened d figures sight q' route k' x) et (subst (λ (x : Kind). IsWritten opened d figures sight q' route x t) ek (subst (λ (x : List ℕ). IsWritten opened d figures sight x route k t) eq w))
-
--- the first of so many, or all
-pub most : {X : Type 0} (n : ℕ) (xs : List X) → take (min (length xs) n) xs ≡ take n xs
-most n xs = let turned : min (length xs) n ≡ min n (length xs) = omega arith in ap (λ (m : ℕ). take m xs) turned ∙ take_min n xs

@@ -43,13 +43,13 @@ pub enough_served : (desk : Desk) (d : Day) (old new : List Guest) → SoFar des
 enough_served desk d old new s = record { told = s.told; few = omega (arith, s.many); served = s.served; next = inr s.many }
 
 -- the next batch is to be sold
-pub batch_next : (desk : Desk) (d : Day) (count : ℕ) (old mid new : List Guest) (selling : Selling) (batch : List Row) → count ≤ 16 → SoFar desk d count old mid → first_asked mid ≡ Some (selling.number, routes.Bookings) → selling.rows ≡ length d.entries
-    → new ≡ mid → IsBatchOf desk selling.number mid batch → IsServing desk d old new (Some (selling, batch))
-batch_next desk d count old mid new selling batch le s f rows same b = record {
+pub batch_next : (desk : Desk) (d : Day) (count : ℕ) (old mid new : List Guest) (selling : Selling) (offered : List Row) → count ≤ 16 → SoFar desk d count old mid → first_asked mid ≡ Some (selling.number, routes.Bookings) → selling.rows ≡ length d.entries
+    → new ≡ mid → IsBatchOf desk selling.number mid selling.wanted offered → IsServing desk d old new (Some (selling, offered))
+batch_next desk d count old mid new selling offered le s f rows same b = record {
   told = s.told;
   few = omega (arith, s.many);
   served = subst (λ (gs : List Guest). AreServed desk d s.told old gs) (sym same) s.served;
-  next = (ap first_asked same ∙ f, rows, subst (λ (gs : List Guest). IsBatchOf desk selling.number gs batch) (sym same) b);
+  next = (ap first_asked same ∙ f, rows, subst (λ (gs : List Guest). IsBatchOf desk selling.number gs selling.wanted offered) (sym same) b);
 }
 
 -- a request whose bookings have a fault

@@ -1,10 +1,9 @@
 -- Private: what each is told who waits at the door.
-use Rattle.std.specs.Prelude.{◌≡◌, ◌⊎◌, ℕ, ◌≤◌, Bool, true, false, List, [], ◌∷◌, take, length, codes, Option, Some, None}
-use Rattle.bx_office_world.specs.Sold.{sold_text}
+use Rattle.std.specs.Prelude.{◌≡◌, ◌⊎◌, ℕ, ◌≤◌, Bool, true, false, List, [], ◌∷◌, length, codes, Option, Some, None}
+use Rattle.bx_office_world.specs.Sold.{within_day, sold_text}
 use Rattle.bx_office_world.specs.declared.fault.NoAnswer.{NoAnswer}
 use Rattle.bx_office_world.specs.declared.fault.NoAnswer.TheVariants as no
 use Rattle.bx_base.specs.Bookings.{Row}
-use Rattle.bx_base.specs.declared.bookings.TheConstants.{MAX_BOOKINGS}
 use Rattle.bx_book.specs.Texts.{IsBook, IsBookFault}
 use Rattle.csv.specs.Reading.{strip_bom}
 use Rattle.bx_book.specs.Rows.{span_of}
@@ -24,6 +23,8 @@ use Rattle.bx_office.specs.declared.reply.Status.TheVariants as statuses
 use Rattle.bx_office_door.specs.Guests.{client_of, first_asked, IsAnswered, IsAnsweredThere}
 use Rattle.bx_office_door.specs.declared.guest.Guest.{Guest}
 use Rattle.bx_office_world.specs.Desk.{IsWritten, IsUnanswered}
+use Rattle.bx_office_world.specs.declared.desk.Opened.{Opened}
+use Rattle.bx_office_world.specs.declared.serving.Batch.{Batch}
 use Rattle.bx_office_world.specs.declared.serving.Desk.{Desk}
 use Rattle.bx_office_world.specs.declared.serving.Selling.{Selling}
 use Rattle.bx_planner.specs.declared.answer.NoQuote.TheVariants as quotes
@@ -83,25 +84,33 @@ IsServed desk d number route old new = ((client_of number old ≡ None) × (new 
 
 -- ---- a request that asks for bookings to be sold
 
+-- wanted is just what the text says, and of that what starts by the last second to which the day is run is offered
+pub record IsBatchIn (opened : Opened) (text : List ℕ) (wanted offered : List Row) : Type 0 where
+  pub read : IsBook (strip_bom text) (span_of opened.day) wanted
+  pub within : offered ≡ within_day opened.last wanted
+
+abbrev pub IsBadBatch : Opened → List ℕ → BookFault → Type 0
+IsBadBatch opened text fault = IsBookFault (strip_bom text) (span_of opened.day) fault
+
 -- the batch is what the body of the client of this number says
-pub record IsBatchOf (desk : Desk) (number : ℕ) (guests : List Guest) (batch : List Row) : Type 0 where
+pub record IsBatchOf (desk : Desk) (number : ℕ) (guests : List Guest) (wanted offered : List Row) : Type 0 where
   pub client : Client
   pub there : client_of number guests ≡ Some client
-  pub read : IsBook (strip_bom client.body.items) (span_of desk.opened.now.day) batch
+  pub batch : IsBatchIn desk.opened.now client.body.items wanted offered
 
 -- its body has a fault, and just this client is told so
 pub record IsFaulted (desk : Desk) (number : ℕ) (old new : List Guest) : Type 0 where
   pub client : Client
   pub there : client_of number old ≡ Some client
   pub fault : BookFault
-  pub read : IsBookFault (strip_bom client.body.items) (span_of desk.opened.now.day) fault
+  pub read : IsBadBatch desk.opened.now client.body.items fault
   pub reply : Reply
   pub is : IsPlain (book_status fault) reply
   pub answered : IsAnswered number reply old new
 
-abbrev pub IsBatchRead : Desk → ℕ → List Guest → List Guest → Option (List Row) → Type 0
+abbrev pub IsBatchRead : Desk → ℕ → List Guest → List Guest → Option Batch → Type 0
 IsBatchRead desk number old new None = ((client_of number old ≡ None) × (new ≡ old)) ⊎ IsFaulted desk number old new
-IsBatchRead desk number old new (Some batch) = (new ≡ old) × IsBatchOf desk number old batch
+IsBatchRead desk number old new (Some batch) = (new ≡ old) × IsBatchOf desk number old batch.wanted batch.offered
 
 -- ---- who waits is answered, each in its turn
 
@@ -114,10 +123,10 @@ abbrev pub AreServed : Desk → Day → List (ℕ × Route) → List Guest → L
 AreServed desk d [] old new = new ≡ old
 AreServed desk d (turn ∷ more) old new = (first_asked old ≡ Some turn) × (next : List Guest) × IsTurn desk d turn.0 turn.1 old next × AreServed desk d more next new
 
--- the next batch is that of the first who waits then, which is kept with how many rows the plan has
+-- what is offered next is of the batch of the first who waits then, which is kept with how many rows the plan has
 abbrev pub IsNextBatch : Desk → Day → List (ℕ × Route) → List Guest → Option (Selling × List Row) → Type 0
 IsNextBatch desk d told new None = (first_asked new ≡ None) ⊎ (length told ≡ 16)
-IsNextBatch desk d told new (Some next) = (first_asked new ≡ Some (next.0.number, routes.Bookings)) × (next.0.rows ≡ length d.entries) × IsBatchOf desk next.0.number new next.1
+IsNextBatch desk d told new (Some next) = (first_asked new ≡ Some (next.0.number, routes.Bookings)) × (next.0.rows ≡ length d.entries) × IsBatchOf desk next.0.number new next.0.wanted next.1
 
 pub record IsServing (desk : Desk) (d : Day) (old new : List Guest) (result : Option (Selling × List Row)) : Type 0 where
   pub told : List (ℕ × Route)
@@ -127,12 +136,12 @@ pub record IsServing (desk : Desk) (d : Day) (old new : List Guest) (result : Op
 
 -- ---- what is sold
 
-abbrev pub IsSoldReply : Selling → List Answer → Reply → Type 0
-IsSoldReply selling answers reply = ((reply.status ≡ statuses.Fine) × (reply.kind ≡ kinds.Csv) × (reply.allowed ≡ methods.Unsaid) × (reply.body.now ≡ sold_text selling.rows (take MAX_BOOKINGS answers)))
+abbrev pub IsSoldReply : ℕ → Selling → List Answer → Reply → Type 0
+IsSoldReply last selling answers reply = ((reply.status ≡ statuses.Fine) × (reply.kind ≡ kinds.Csv) × (reply.allowed ≡ methods.Unsaid) × (reply.body.now ≡ sold_text last selling.rows selling.wanted answers))
     ⊎ (IsPlain statuses.Unavailable reply × (reply.body.now ≡ codes "Memory: what is sold stands in the plan\n"))
 
 -- just the customer of the batch is told it
-pub record IsToldSold (selling : Selling) (answers : List Answer) (old new : List Guest) : Type 0 where
+pub record IsToldSold (last : ℕ) (selling : Selling) (answers : List Answer) (old new : List Guest) : Type 0 where
   pub reply : Reply
-  pub is : IsSoldReply selling answers reply
+  pub is : IsSoldReply last selling answers reply
   pub answered : IsAnsweredThere selling.number reply old new

@@ -1,9 +1,23 @@
 -- What a customer is told of a batch.
-use Rattle.std.specs.Prelude.{ℕ, ◌+◌, Bool, true, false, List, [], ◌∷◌, ◌++◌, codes, decimal, if◌then◌else◌}
+use Rattle.std.specs.Prelude.{ℕ, ◌+◌, Bool, true, false, List, [], ◌∷◌, ◌++◌, codes, decimal, drop, nat_le, nat_lt, if◌then◌else◌}
+use Rattle.std.specs.List.{filter}
+use Rattle.bx_base.specs.Bookings.{Row}
 use Rattle.bx_market.specs.declared.market.Answer.{Answer}
 use Rattle.bx_market.specs.declared.market.Answer.TheVariants as answers
 use Rattle.bx_sales.specs.declared.selling.NoSale.{NoSale}
 use Rattle.bx_sales.specs.declared.selling.NoSale.TheVariants as reasons
+
+-- ---- what is offered
+
+-- a booking starts by the last second to which the day is run
+abbrev pub is_within : ℕ → Row → Bool
+is_within last booking = nat_le booking.start last
+
+-- those of a batch that do, in their order
+abbrev pub within_day : ℕ → List Row → List Row
+within_day last wanted = filter (is_within last) wanted
+
+-- ---- why
 
 abbrev pub reason_of : NoSale → List ℕ
 reason_of reasons.Late = codes "Late"
@@ -12,23 +26,45 @@ reason_of reasons.NoChannel = codes "NoChannel"
 reason_of reasons.OtherChannels = codes "OtherChannels"
 reason_of reasons.Memory = codes "Memory"
 
--- what stands after the row of the batch: an accepted booking has a row of the plan
-abbrev pub answer_fields : Answer → ℕ → List ℕ
-answer_fields answers.Accepted place = codes ",accepted," ++ decimal place ++ codes ",\n"
-answer_fields (answers.Refused why) place = codes ",refused,," ++ reason_of why ++ codes "\n"
+-- a booking lasts less than three seconds
+abbrev pub is_brief : Row → Bool
+is_brief booking = nat_lt booking.end (booking.start + 3)
 
-abbrev pub answer_line : ℕ → Answer → ℕ → List ℕ
-answer_line row answer place = decimal row ++ answer_fields answer place
+-- that it may be too short to be carried on a live line, though it is sold
+abbrev pub warning_of : Row → List ℕ
+warning_of booking = if is_brief booking then codes "TooShort" else []
+
+-- ---- the lines
+
+-- what stands after the row of the batch: an accepted booking has a row of the plan
+abbrev pub answer_fields : Answer → Row → ℕ → List ℕ
+answer_fields answers.Accepted booking place = codes ",accepted," ++ decimal place ++ codes "," ++ warning_of booking ++ codes "\n"
+answer_fields (answers.Refused why) booking place = codes ",refused,," ++ reason_of why ++ codes "\n"
+
+abbrev pub answer_line : ℕ → Row → Answer → ℕ → List ℕ
+answer_line row booking answer place = decimal row ++ answer_fields answer booking place
+
+-- the line of a booking that was not offered
+abbrev pub after_line : ℕ → List ℕ
+after_line row = decimal row ++ codes ",refused,,AfterTheDay\n"
 
 abbrev pub is_sold_answer : Answer → Bool
 is_sold_answer answers.Accepted = true
 is_sold_answer (answers.Refused why) = false
 
--- the lines of rows of a batch, where the next row of the plan is at hand
-abbrev pub sold_lines : ℕ → ℕ → List Answer → List ℕ
-sold_lines row place [] = []
-sold_lines row place (answer ∷ more) = answer_line row answer place ++ sold_lines (row + 1) (if is_sold_answer answer then place + 1 else place) more
+-- the first of the answers that are left; what has none is not sold
+abbrev pub next_answer : List Answer → Answer
+next_answer [] = answers.Refused reasons.Memory
+next_answer (answer ∷ more) = answer
 
--- after so many rows of the plan
-abbrev pub sold_text : ℕ → List Answer → List ℕ
-sold_text rows told = codes "row,answer,plan row,reason\n" ++ sold_lines 1 (rows + 1) told
+-- the lines of bookings of a batch from this row of it on, where the next row of the plan is at hand, and what was told of those that were offered
+abbrev pub sold_lines : ℕ → ℕ → ℕ → List Row → List Answer → List ℕ
+sold_lines last row place [] told = []
+sold_lines last row place (booking ∷ wanted) told =
+    if is_within last booking
+    then answer_line row booking (next_answer told) place ++ sold_lines last (row + 1) (if is_sold_answer (next_answer told) then place + 1 else place) wanted (drop 1 told)
+    else (after_line row ++ sold_lines last (row + 1) place wanted told)
+
+-- on a day that is run to this second, after so many rows of the plan
+abbrev pub sold_text : ℕ → ℕ → List Row → List Answer → List ℕ
+sold_text last rows wanted told = codes "row,answer,plan row,reason\n" ++ sold_lines last 1 (rows + 1) wanted told

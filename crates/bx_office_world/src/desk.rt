@@ -18,11 +18,13 @@ use bx_day_chart::DaySight;
 use bx_office::{Kind, Route};
 use std::alloc::Global;
 
-/// What the office was opened with: the channels in service, the day, and the clock of its zone for records.
+/// What the office was opened with: the channels in service, the day, the last second to which it is run, after which none begins but for
+/// a call that is up, and the clock of its zone for records.
 #[derive(Clone, Copy)]
 pub struct Opened {
     pub channels: ChannelSet,
     pub day: Day,
+    pub last: u32,
     pub clock: Option<Clock>,
 }
 

@@ -1,16 +1,16 @@
 //! Who waits at the door is answered.
 
-ghost use Rattle.std.specs.Prelude.{◌≡◌, ◌-◌};
+ghost use Rattle.std.specs.Prelude.{◌≡◌, ◌-◌, IfOk, IfErr};
 ghost use Rattle.bx_office_world.specs.Counting.{begin_counted, is_late, is_without_link, IsOutageNoted};
 ghost use Rattle.bx_office_door.specs.Doors.{guests_of};
-ghost use Rattle.bx_office_world.specs.Serving.{reply_status_of, book_status, is_late_for, IsRefusing, IsServed, IsBatchRead, IsServing, IsToldSold};
+ghost use Rattle.bx_office_world.specs.Serving.{reply_status_of, book_status, is_late_for, IsRefusing, IsServed, IsBatchIn, IsBadBatch, IsBatchRead, IsServing, IsToldSold};
 
 use crate::counting::{count_begin, is_late, is_without_link};
 use crate::desk::{Opened, Written, answer_of};
 use crate::fault::NoAnswer;
 use crate::metrics::Figures;
-use crate::sold::sold_text;
-use bx_base::{Bookings, MAX_BOOKINGS};
+use crate::sold::{sold_text, within_day};
+use bx_base::Bookings;
 use bx_book::{BookFault, read_bookings};
 use bx_day::Exchange;
 use bx_day_chart::DaySight;
@@ -25,11 +25,19 @@ use std::fmt::Display;
 /// The most requests that are answered at a time.
 const MAX_ANSWERS: u32 = 16;
 
-/// A batch that is being sold: whose it is, and how many rows the plan has.
-#[derive(Clone, Copy)]
+/// A batch that is being sold: whose it is, how many rows the plan has, and all that is wanted, also what is not offered.
+#[derive(Drop)]
 pub(crate) struct Selling {
     number: u64,
     rows: u16,
+    wanted: Bookings,
+}
+
+/// The bookings of a request, and those of them that are offered: they start by the last second to which the day is run.
+#[derive(Drop)]
+struct Batch {
+    wanted: Bookings,
+    offered: Bookings,
 }
 
 /// What the office is at: what it was opened with, what was counted, where there was no link, and whether the last second began late.
@@ -71,6 +79,18 @@ fn book_status(fault: BookFault) -> Status
     match fault {
         BookFault::Memory => Status::Unavailable,
         _ => Status::BadRequest,
+    }
+}
+
+/// The batch of a text, at an office that was opened with this. Where it has a fault, or memory runs out, there is none.
+fn batch_in(alloc: Global, opened: &Opened, text: &[u8]) -> Result<Batch, BookFault>
+    ensures batch { IfOk result (λ batch. IsBatchIn opened.now text.now batch.wanted batch.offered) }
+    ensures fault { IfErr result (IsBadBatch opened.now text.now) }
+{
+    let wanted = read_bookings(alloc, text, &opened.day)?;
+    match within_day(alloc, opened.last, &wanted) {
+        Ok(offered) => Ok(Batch { wanted, offered }),
+        Err(_) => Err(BookFault::Memory),
     }
 }
 
@@ -134,12 +154,12 @@ impl Desk<'_> {
         }
     }
 
-    /// The bookings of a request. Where they have a fault, that is answered, and nothing is sold.
-    fn batch(&self, alloc: Global, door: &mut Door, number: u64) -> Option<Bookings>
+    /// The batch of a request. Where it has a fault, that is answered, and nothing is sold.
+    fn batch(&self, alloc: Global, door: &mut Door, number: u64) -> Option<Batch>
         ensures { IsBatchRead self.now number (guests_of door.old) (guests_of door.new) result }
     {
         let client = door.client(number)?;
-        match read_bookings(alloc, client.body(), &self.opened.day) {
+        match batch_in(alloc, self.opened, client.body()) {
             Ok(batch) => Some(batch),
             Err(fault) => {
                 refuse(alloc, door, number, book_status(fault), fault);
@@ -149,7 +169,7 @@ impl Desk<'_> {
     }
 
     /// Answers who waits, each in its turn, up to the first that asks for bookings to be sold, or up to so many: whose they are, and
-    /// what they are.
+    /// those that are offered.
     pub(crate) fn serve(
         &self,
         alloc: Global,
@@ -166,7 +186,13 @@ impl Desk<'_> {
             match route {
                 Route::Bookings => {
                     if let Some(batch) = self.batch(alloc, door, number) {
-                        return Some((Selling { number, rows }, batch));
+                        let Batch { wanted, offered } = batch;
+                        let selling = Selling {
+                            number,
+                            rows,
+                            wanted,
+                        };
+                        return Some((selling, offered));
                     }
                 }
                 _ => self.tell(alloc, door, exchange, number, route),
@@ -176,12 +202,17 @@ impl Desk<'_> {
     }
 }
 
-/// Tells the customer of a batch what is sold of it.
-pub(crate) fn tell_sold(alloc: Global, door: &mut Door, selling: Selling, answers: &[Answer])
-    ensures { IsToldSold selling answers.now (guests_of door.old) (guests_of door.new) }
+/// Tells the customer of a batch what is sold of it, on a day that is run to this second.
+pub(crate) fn tell_sold(
+    alloc: Global,
+    door: &mut Door,
+    last: u32,
+    selling: &Selling,
+    answers: &[Answer],
+)
+    ensures { IsToldSold last selling.now answers.now (guests_of door.old) (guests_of door.new) }
 {
-    let count = answers.len().min(MAX_BOOKINGS);
-    match sold_text(alloc, selling.rows, &answers[..count]) {
+    match sold_text(alloc, last, selling.rows, &selling.wanted, answers) {
         Ok(text) => door.answer(selling.number, reply_of(Status::Fine, Kind::Csv, &text)),
         Err(_) => door.answer(
             selling.number,

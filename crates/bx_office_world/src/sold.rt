@@ -1,13 +1,42 @@
-//! What a customer is told of a batch.
+//! What is offered of a batch, and what a customer is told of it.
 
-ghost use Rattle.std.specs.Prelude.{◌≡◌, ◌≤◌, ◌++◌, length, IfOk, OnOk};
+ghost use Rattle.std.specs.Prelude.{◌≡◌, ◌≤◌, ◌++◌, drop, length, IfOk, OnOk};
 ghost use Rattle.bx_base.specs.declared.bookings.TheConstants.{MAX_BOOKINGS};
-ghost use Rattle.bx_office_world.specs.Sold.{reason_of, is_sold_answer, answer_line, sold_text};
+ghost use Rattle.bx_office_world.specs.Sold.{is_within, within_day, reason_of, is_brief, is_sold_answer, next_answer, answer_line, after_line, sold_text};
 
+use bx_base::{Booking, Bookings};
 use bx_market::Answer;
 use bx_sales::NoSale;
 use bx_text::append_decimal;
 use std::alloc::{AllocError, Global};
+
+/// Whether a booking starts by this second.
+fn is_within(last: u32, booking: Booking) -> bool
+    ensures { result ≡ is_within last booking }
+{
+    booking.start() <= last
+}
+
+/// Those of some bookings that start by the last second to which the day is run: no second begins after it but for a call that is up.
+pub(crate) fn within_day(
+    alloc: Global,
+    last: u32,
+    wanted: &Bookings,
+) -> Result<Bookings, AllocError>
+    ensures { IfOk result (λ offered. offered ≡ within_day last wanted.now) }
+{
+    let mut offered = Bookings::new(alloc);
+    for index in 0..wanted.len() {
+        let booking = wanted.nth(index);
+        if is_within(last, booking) {
+            match offered.push(booking) {
+                Ok(()) => {}
+                Err(_) => return Err(AllocError),
+            }
+        }
+    }
+    Ok(offered)
+}
 
 /// Why a booking is refused, in a word.
 fn reason_of(why: NoSale) -> &'static [u8]
@@ -22,16 +51,34 @@ fn reason_of(why: NoSale) -> &'static [u8]
     }
 }
 
-/// Appends the line of a booking of a batch: its row there, the answer, its row in the plan where it has one, and else the reason.
-fn push_line(text: &mut Vec<u8>, row: u64, answer: Answer, place: u64) -> Result<(), AllocError>
-    ensures { OnOk result (text.new.items ≡ text.old.items ++ answer_line row answer place) }
+/// Whether a booking lasts less than three seconds: one that may be too short to be carried on a live line.
+fn is_brief(booking: Booking) -> bool
+    ensures { result ≡ is_brief booking }
+{
+    booking.end() < booking.start() + 3
+}
+
+/// Appends the line of a booking that was offered: its row in the batch, the answer, its row in the plan where it has one, and why it is
+/// refused, or that it may be too short.
+fn push_line(
+    text: &mut Vec<u8>,
+    row: u64,
+    booking: Booking,
+    answer: Answer,
+    place: u64,
+) -> Result<(), AllocError>
+    ensures { OnOk result (text.new.items ≡ text.old.items ++ answer_line row booking answer place) }
 {
     append_decimal(text, row)?;
     match answer {
         Answer::Accepted => {
             text.extend_from_slice(b",accepted,")?;
             append_decimal(text, place)?;
-            text.extend_from_slice(b",\n")
+            text.extend_from_slice(b",")?;
+            if is_brief(booking) {
+                text.extend_from_slice(b"TooShort")?;
+            }
+            text.extend_from_slice(b"\n")
         }
         Answer::Refused(why) => {
             text.extend_from_slice(b",refused,,")?;
@@ -39,6 +86,14 @@ fn push_line(text: &mut Vec<u8>, row: u64, answer: Answer, place: u64) -> Result
             text.extend_from_slice(b"\n")
         }
     }
+}
+
+/// Appends the line of a booking that was not offered.
+fn push_after(text: &mut Vec<u8>, row: u64) -> Result<(), AllocError>
+    ensures { OnOk result (text.new.items ≡ text.old.items ++ after_line row) }
+{
+    append_decimal(text, row)?;
+    text.extend_from_slice(b",refused,,AfterTheDay\n")
 }
 
 /// Whether a booking has a row in the plan now.
@@ -51,22 +106,46 @@ fn is_accepted(answer: Answer) -> bool
     }
 }
 
-/// What a customer is told of a batch, as CSV: a header, and a line for each of its bookings. After so many rows of the plan stand the
-/// accepted ones, in their order. `AllocError` where memory runs out.
-pub fn sold_text(alloc: Global, rows: u16, answers: &[Answer]) -> Result<Vec<u8>, AllocError>
-    requires { length answers.now ≤ MAX_BOOKINGS }
-    ensures { IfOk result (λ text. text.items ≡ sold_text rows answers.now) }
+/// The answer at this place; beyond the last one nothing is sold.
+fn answer_at(answers: &[Answer], place: usize) -> Answer
+    ensures { result ≡ next_answer (drop place answers.now) }
+{
+    if place < answers.len() {
+        answers[place]
+    } else {
+        Answer::Refused(NoSale::Memory)
+    }
+}
+
+/// What a customer is told of a batch, as CSV: a header, and a line for each of its bookings. Of those that start by the last second to
+/// which the day is run these are the answers, in their order; the others are refused, as `AfterTheDay`. After so many rows of the plan
+/// stand the accepted ones, in their order, those that last less than three seconds with `TooShort`. `AllocError` where memory runs out.
+pub fn sold_text(
+    alloc: Global,
+    last: u32,
+    rows: u16,
+    wanted: &Bookings,
+    answers: &[Answer],
+) -> Result<Vec<u8>, AllocError>
+    ensures { IfOk result (λ text. text.items ≡ sold_text last rows wanted.now answers.now) }
 {
     let mut text = Vec::new(alloc);
     text.extend_from_slice(b"row,answer,plan row,reason\n")?;
     let mut place = u64::from(rows) + 1;
-    let mut row = 1u64;
-    for answer in answers {
-        push_line(&mut text, row, *answer, place)?;
-        if is_accepted(*answer) {
-            place += 1;
+    let mut told = 0usize;
+    for index in 0..wanted.len() {
+        let booking = wanted.nth(index);
+        let row = u64::from(index) + 1;
+        if is_within(last, booking) {
+            let answer = answer_at(answers, told);
+            push_line(&mut text, row, booking, answer, place)?;
+            told += 1;
+            if is_accepted(answer) {
+                place += 1;
+            }
+        } else {
+            push_after(&mut text, row)?;
         }
-        row += 1;
     }
     Ok(text)
 }

@@ -64,16 +64,17 @@ impl<'a> Office<'a> {
         Some((door.answers(), door.shown()))
     }
 
-    /// Answers who waits, up to the first that asks for bookings to be sold: whose they are, and what they are.
+    /// Answers who waits, up to the first that asks for bookings to be sold: whose they are, and those that are offered.
     fn serve(&self, exchange: &Exchange) -> Option<(Selling, Bookings)> {
         let mut guard = self.door.try_borrow_mut().ok()?;
         self.desk.serve(self.alloc, &mut guard, exchange)
     }
 
     /// Tells the customer of a batch what is sold of it.
-    fn tell_sold(&self, selling: Selling, answers: &[Answer]) {
+    fn tell_sold(&self, selling: &Selling, answers: &[Answer]) {
         if let Ok(mut guard) = self.door.try_borrow_mut() {
-            tell_sold(self.alloc, &mut guard, selling, answers);
+            let last = self.desk.opened.last;
+            tell_sold(self.alloc, &mut guard, last, selling, answers);
         }
     }
 }
@@ -154,9 +155,9 @@ impl<'a, W: World> Market for OfficeWorld<'a, W> {
         let (answers, shown) = self.office.seen()?;
         self.office.desk.figures.answers = answers;
         self.office.desk.figures.since_sync = seconds_since(self.office.synced, shown);
-        let (selling, batch) = self.office.serve(exchange)?;
+        let (selling, offered) = self.office.serve(exchange)?;
         self.office.selling = Some(selling);
-        Some(batch)
+        Some(offered)
     }
 
     fn answer(&mut self, answers: &[Answer]) {
@@ -164,7 +165,7 @@ impl<'a, W: World> Market for OfficeWorld<'a, W> {
             return;
         };
         count_sold(&mut self.office.desk.figures, answers);
-        self.office.tell_sold(selling, answers);
+        self.office.tell_sold(&selling, answers);
     }
 
     ghost dealt_by = { λ s t acts p. dealt_so W.did s.world t.world acts p };

@@ -1,5 +1,5 @@
-use Rattle.std.proofs.Common.{◌≡◌, ◌+◌, rules, sym, subst, Option, Some, List}
-use Rattle.bx_base.specs.Bookings.{Row}
+use Rattle.std.proofs.Common.{◌≡◌, ◌+◌, rules, sym, subst, Option, Some}
+use Rattle.bx_office_world.specs.declared.serving.Batch.{Batch}
 use Rattle.bx_office_door.specs.Guests.{first_asked}
 use Rattle.bx_office_door.specs.declared.door.Door.{Door}
 use Rattle.bx_office_world.specs.Serving.{IsBatchRead}
@@ -14,7 +14,7 @@ loop-answer-preserved c =
     let asked : first_asked c.loop-answer.door.guests.items ≡ Some (c.in_ok-number.number, c.in_ok-number.route) = search rules in
     elim c.match-route.branch [
       | in-Bookings+in_default-batch w ↦
-          let read = subst (λ (r : Option (List Row)). IsBatchRead desk c.in_ok-number.number old w.batch.new.door.guests.items r) w.in_default-batch.is w.batch.ensures in
+          let read = subst (λ (r : Option Batch). IsBatchRead desk c.in_ok-number.number old w.batch.new.door.guests.items r) w.in_default-batch.is w.batch.ensures in
           let turn = turn_of_bookings desk c.args.exchange.now c.in_ok-number.number c.in_ok-number.route old w.batch.new.door.guests.items w.in-Bookings.is read in
           subst (λ (door : Door). SoFar desk c.args.exchange.now (c.loop-answer._answer + 1) c.args.door.now.guests.items door.guests.items) (sym w.door-is)
           (one_more desk c.args.exchange.now c.loop-answer._answer c.in_ok-number.number c.in_ok-number.route c.args.door.now.guests.items old w.batch.new.door.guests.items c.loop-answer.invariant asked turn)
