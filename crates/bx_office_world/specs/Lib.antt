@@ -8,4 +8,5 @@ pub mod Maintenance
 pub mod Metrics
 pub mod Quotes
 pub mod Sold
+pub mod Offered
 pub mod Tallies

@@ -1,6 +1,7 @@
 -- Private: what each is told who waits at the door.
 use Rattle.std.specs.Prelude.{◌≡◌, ◌⊎◌, ℕ, ◌≤◌, Bool, true, false, List, [], ◌∷◌, length, codes, Option, Some, None}
-use Rattle.bx_office_world.specs.Sold.{within_day, sold_text}
+use Rattle.bx_office_world.specs.Offered.{within_day}
+use Rattle.bx_office_world.specs.Sold.{sold_text}
 use Rattle.bx_office_world.specs.declared.fault.NoAnswer.{NoAnswer}
 use Rattle.bx_office_world.specs.declared.fault.NoAnswer.TheVariants as no
 use Rattle.bx_base.specs.Bookings.{Row}

@@ -1,6 +1,5 @@
 -- What a customer is told of a batch.
 use Rattle.std.specs.Prelude.{ℕ, ◌+◌, Bool, true, false, List, [], ◌∷◌, ◌++◌, codes, decimal, drop, nat_le, nat_lt, if◌then◌else◌}
-use Rattle.std.specs.List.{filter}
 use Rattle.bx_base.specs.Bookings.{Row}
 use Rattle.bx_market.specs.declared.market.Answer.{Answer}
 use Rattle.bx_market.specs.declared.market.Answer.TheVariants as answers
@@ -12,10 +11,6 @@ use Rattle.bx_sales.specs.declared.selling.NoSale.TheVariants as reasons
 -- a booking starts by the last second to which the day is run
 abbrev pub is_within : ℕ → Row → Bool
 is_within last booking = nat_le booking.start last
-
--- those of a batch that do, in their order
-abbrev pub within_day : ℕ → List Row → List Row
-within_day last wanted = filter (is_within last) wanted
 
 -- ---- why
 

@@ -2,7 +2,8 @@
 
 ghost use Rattle.std.specs.Prelude.{◌≡◌, ◌≤◌, ◌++◌, drop, length, IfOk, OnOk};
 ghost use Rattle.bx_base.specs.declared.bookings.TheConstants.{MAX_BOOKINGS};
-ghost use Rattle.bx_office_world.specs.Sold.{is_within, within_day, reason_of, is_brief, is_sold_answer, next_answer, answer_line, after_line, sold_text};
+ghost use Rattle.bx_office_world.specs.Offered.{within_day};
+ghost use Rattle.bx_office_world.specs.Sold.{is_within, reason_of, is_brief, is_sold_answer, next_answer, answer_line, after_line, sold_text};
 
 use bx_base::{Booking, Bookings};
 use bx_market::Answer;

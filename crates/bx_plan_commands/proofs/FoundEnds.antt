@@ -14,7 +14,8 @@ use Rattle.std.proofs.lemmas.List.Folds.{list_any_at, list_any_none}
 use Rattle.std.proofs.lemmas.List.Sorted.{searchable_from_sorted, list_any-IsPermutation}
 use Rattle.bx_base.specs.Bookings.{Row, row_at}
 use Rattle.bx_base.specs.PlanParts.{Parts}
-use Rattle.bx_plan_commands.specs.Notes.{ends_below, end_cmp, is_end_at, some_ends, lasts, is_short_on, is_too_short, AreEnds}
+use Rattle.bx_plan_commands.specs.Ends.{end_cmp, AreEnds}
+use Rattle.bx_plan_commands.specs.Notes.{ends_below, is_end_at, some_ends, lasts, is_short_on, is_too_short}
 
 abbrev End : Type 0
 End = ℕ × ℕ

@@ -9,6 +9,7 @@ pub mod FileRequests
 pub mod Tables
 pub mod Planning
 pub mod Notes
+pub mod Ends
 pub mod Amending
 pub mod EarningLines
 pub mod Capacity

@@ -2,9 +2,6 @@
 use Rattle.std.specs.Prelude.{◌≡◌, ◌⊎◌, ℕ, zero, suc, ◌+◌, ◌==◌, ◌&&◌, ◌||◌, Bool, true, false, List, [], ◌∷◌, ◌++◌, length, codes, decimal, Option, Some, None, slice_index_or, if◌then◌else◌}
 use Rattle.std.specs.Io.KnownBytes.{Appends}
 use Rattle.std.specs.List.{list_any}
-use Rattle.std.specs.List.Sorted.{IsPermutation, IsSorted}
-use Rattle.std.specs.Ordering.{nat_cmp, ordering_then}
-use Rattle.std.specs.declared.cmp.Ordering.{Ordering}
 use Rattle.bx_base.specs.Bookings.{Row, row_at}
 use Rattle.bx_base.specs.PlanParts.{Parts}
 use Rattle.bx_devices.specs.Devices.{Writing}
@@ -40,17 +37,6 @@ is_short_on plan (Some channel) row = lasts row 1 || (lasts row 2 && (row.inward
 -- the row at i may be too short to be carried on a live line
 abbrev pub is_too_short : Parts → ℕ → Bool
 is_too_short plan i = is_short_on plan (slice_index_or plan.assigned i None) (row_at plan.rows i)
-
--- ---- how such a booking is found
-
--- by channel, and on one channel by the second
-abbrev pub end_cmp : ℕ × ℕ → ℕ × ℕ → Ordering
-end_cmp a b = ordering_then (nat_cmp a.0 b.0) (nat_cmp a.1 b.1)
-
--- the ends of all accepted rows, in that order
-pub record AreEnds (plan : Parts) (ends : List (ℕ × ℕ)) : Type 0 where
-  pub all : IsPermutation (ends_below plan (length plan.rows)) ends
-  pub sorted : IsSorted end_cmp ends
 
 -- ---- the note
 

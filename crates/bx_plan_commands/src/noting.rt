@@ -6,7 +6,8 @@ ghost use Rattle.std.specs.List.Sorted.{IsSorted};
 ghost use Rattle.bx_base.specs.PlanParts.{parts_of};
 ghost use Rattle.bx_devices.specs.Devices.{writing_of};
 ghost use Rattle.bx_text.specs.Gathering.{Gathers, held};
-ghost use Rattle.bx_plan_commands.specs.Notes.{ends_below, is_end_at, end_cmp, AreEnds, is_too_short, row_text, note_text, IsNoteWritten};
+ghost use Rattle.bx_plan_commands.specs.Notes.{ends_below, is_end_at, is_too_short, row_text, note_text, IsNoteWritten};
+ghost use Rattle.bx_plan_commands.specs.Ends.{end_cmp, AreEnds};
 ghost use Rattle.bx_base.specs.Bookings.{row_at};
 ghost use Rattle.bx_base.specs.declared.bookings.TheConstants.{MAX_BOOKINGS};
 

@@ -1,5 +1,5 @@
 use Rattle.std.proofs.Common.{◌≡◌, take}
-use Rattle.bx_office_world.specs.Sold.{within_day}
+use Rattle.bx_office_world.specs.Offered.{within_day}
 use Rattle.bx_office_world.proofs.sold.within_day.Given as goal
 
 abbrev pub invariant-loop-index : goal.invariant-loop-index
