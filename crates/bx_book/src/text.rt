@@ -7,7 +7,6 @@ ghost use Rattle.csv.specs.Records.{fields_of};
 ghost use Rattle.bx_text.specs.Records.{IsReading};
 ghost use Rattle.bx_book.specs.Rows.{span_of};
 ghost use Rattle.bx_book.specs.Texts.{header_columns, IsBook, IsBookFault};
-ghost use Rattle.bx_book.specs.Inside.{told_as};
 
 use crate::fault::BookFault;
 use crate::row::booking;
@@ -81,15 +80,19 @@ impl RowForm for BookRows {
     }
 }
 
-/// A fault of rows as one of a booking text.
-fn told_as(fault: RowsFault<BookFault>) -> BookFault
-    ensures { result ≡ told_as fault }
-{
-    match fault {
-        RowsFault::BadHeader => BookFault::BadHeader,
-        RowsFault::Row(fault) => fault,
-        RowsFault::TooMany => BookFault::TooMany,
-        RowsFault::Memory => BookFault::Memory,
+impl From<RowsFault<BookFault>> for BookFault {
+    ghost use Rattle.std.specs.Prelude.{◌≡◌};
+    ghost use Rattle.bx_book.specs.Inside.{told_as};
+
+    ghost from_gives = { λ fault told. told ≡ told_as fault };
+
+    fn from(fault: RowsFault<BookFault>) -> BookFault {
+        match fault {
+            RowsFault::BadHeader => BookFault::BadHeader,
+            RowsFault::Row(fault) => fault,
+            RowsFault::TooMany => BookFault::TooMany,
+            RowsFault::Memory => BookFault::Memory,
+        }
     }
 }
 
@@ -104,10 +107,7 @@ pub(crate) fn read_book<R: Read>(
     ensures err { IfErr result (λ e. IfSome (source_of R.remaining records.old) (λ text. IsBookFault text (span_of day.now) e)) }
 {
     let rows = BookRows { day: *day };
-    match read_records(alloc, &rows, records) {
-        Ok(bookings) => Ok(bookings),
-        Err(fault) => Err(told_as(fault)),
-    }
+    Ok(read_records(alloc, &rows, records)?)
 }
 
 /// Reads the booking text of a day, RFC 4180 records as `csv` reads them: a header `start,end,number,pay`, which may
