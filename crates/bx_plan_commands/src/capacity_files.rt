@@ -30,10 +30,7 @@ pub fn capacity_file<'a, I: Inputs, W: Write>(
     ensures refused { IfErr result (IsTableRefusal (I.gives inputs.old) day.entry.0.now day.entry.1.now bookings.now W.contents output.old output.new) }
 {
     let day = day_of(day.0, day.1)?;
-    let mut input = match inputs.open(bookings) {
-        Ok(input) => input,
-        Err(fault) => return Err(FileFault::Command(fault)),
-    };
+    let mut input = inputs.open(bookings)?;
     match capacity_run(alloc, &mut input, output, &day) {
         Ok(()) => Ok(()),
         Err(fault) => Err(fault_of(bookings, fault)),

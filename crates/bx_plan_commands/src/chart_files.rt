@@ -24,10 +24,7 @@ fn clock_of<'a>(day: Option<(&str, &str)>) -> Result<Option<Clock>, FileFault<'a
     let Some((date, zone)) = day else {
         return Ok(None);
     };
-    match Clock::new(date, zone) {
-        Ok(clock) => Ok(Some(clock)),
-        Err(fault) => Err(FileFault::Day(fault)),
-    }
+    Ok(Some(Clock::new(date, zone)?))
 }
 
 /// Writes a picture of the plan of an input, with what one more channel would add to its total, of the day with this date and
@@ -45,10 +42,7 @@ pub fn chart_file<'a, I: Inputs, W: Write>(
     ensures refused { IfErr result (IsNotPictured (I.gives inputs.old) day.entry plan.now W.contents output.old output.new) }
 {
     let clock = clock_of(day)?;
-    let plan = match proved_named(alloc, inputs, plan) {
-        Ok(plan) => plan,
-        Err(fault) => return Err(FileFault::Command(fault)),
-    };
+    let plan = proved_named(alloc, inputs, plan)?;
     draw_plan(alloc, &plan, &clock, output)
 }
 

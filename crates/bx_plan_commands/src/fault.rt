@@ -37,3 +37,47 @@ pub enum FileFault<'a> {
     #[error(transparent)]
     Chart(ChartFault),
 }
+
+impl<'a> From<CommandFault<'a>> for FileFault<'a> {
+    ghost use Rattle.std.specs.Prelude.{◌≡◌};
+    ghost use Rattle.bx_plan_commands.specs.declared.fault.FileFault.TheVariants.{Command};
+
+    ghost from_gives = { λ fault told. told ≡ Command fault };
+
+    fn from(fault: CommandFault<'a>) -> FileFault<'a> {
+        FileFault::Command(fault)
+    }
+}
+
+impl<'a> From<DayFault> for FileFault<'a> {
+    ghost use Rattle.std.specs.Prelude.{◌≡◌};
+    ghost use Rattle.bx_plan_commands.specs.declared.fault.FileFault.TheVariants.{Day};
+
+    ghost from_gives = { λ fault told. told ≡ Day fault };
+
+    fn from(fault: DayFault) -> FileFault<'a> {
+        FileFault::Day(fault)
+    }
+}
+
+impl<'a> From<BookFault> for FileFault<'a> {
+    ghost use Rattle.std.specs.Prelude.{◌≡◌};
+    ghost use Rattle.bx_plan_commands.specs.declared.fault.FileFault.TheVariants.{Book};
+
+    ghost from_gives = { λ fault told. told ≡ Book fault };
+
+    fn from(fault: BookFault) -> FileFault<'a> {
+        FileFault::Book(fault)
+    }
+}
+
+impl<'a> From<QuoteFault> for FileFault<'a> {
+    ghost use Rattle.std.specs.Prelude.{◌≡◌};
+    ghost use Rattle.bx_plan_commands.specs.declared.fault.FileFault.TheVariants.{Quote};
+
+    ghost from_gives = { λ fault told. told ≡ Quote fault };
+
+    fn from(fault: QuoteFault) -> FileFault<'a> {
+        FileFault::Quote(fault)
+    }
+}

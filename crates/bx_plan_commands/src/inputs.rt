@@ -22,10 +22,7 @@ pub(crate) fn bookings_named<'a, I: Inputs>(
     ensures none { IfErr result (HasNoBookings (I.gives inputs.old) name.now day.now) }
     ensures no_more { (other : List ℕ) (text : Option (List ℕ)) → I.gives inputs.new other text → I.gives inputs.old other text }
 {
-    let mut input = match inputs.open(name) {
-        Ok(input) => input,
-        Err(fault) => return Err(FileFault::Command(fault)),
-    };
+    let mut input = inputs.open(name)?;
     match read_bookings_from(alloc, &mut input, day) {
         Ok(bookings) => Ok(bookings),
         Err(StreamFault::Book(fault)) => Err(FileFault::Book(fault)),

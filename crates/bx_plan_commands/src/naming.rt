@@ -15,10 +15,7 @@ pub(crate) fn day_of<'a>(date: &str, zone: &str) -> Result<Day, FileFault<'a>>
     ensures named { IfOk result (IsDayOf date.now zone.now) }
     ensures none { IfErr result (IsNoDay date.now zone.now) }
 {
-    match Day::new(date, zone) {
-        Ok(day) => Ok(day),
-        Err(fault) => Err(FileFault::Day(fault)),
-    }
+    Ok(Day::new(date, zone)?)
 }
 
 /// The channels and the day that the words name.

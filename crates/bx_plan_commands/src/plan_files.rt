@@ -37,10 +37,7 @@ pub fn plan_file<'a, I: Inputs, W: Write, E: Write>(
     ensures refused { IfErr result (IsPlanRefusal (I.gives inputs.old) terms.now bookings.now W.contents output.old output.new) }
 {
     let (channels, day) = channels_and_day(terms)?;
-    let mut input = match inputs.open(bookings) {
-        Ok(input) => input,
-        Err(fault) => return Err(FileFault::Command(fault)),
-    };
+    let mut input = inputs.open(bookings)?;
     match plan_run(alloc, &mut input, output, &day, channels) {
         Ok(plan) => {
             note_too_short(&plan, errors);
@@ -81,14 +78,9 @@ fn check_named<'a, I: Inputs, W: Write>(
     ensures checked { OnOk result (IsCheckedFor (I.gives inputs.old) rows.now channels plan.now (writing_of W.contents output.old output.new)) }
     ensures refused { IfErr result (IsNotCheckedFor (I.gives inputs.old) rows.now channels plan.now W.contents output.old output.new) }
 {
-    let mut input = match inputs.open(plan) {
-        Ok(input) => input,
-        Err(fault) => return Err(FileFault::Command(fault)),
-    };
-    match check_against(alloc, plan, rows, channels, &mut input, output) {
-        Ok(_) => Ok(()),
-        Err(fault) => Err(FileFault::Command(fault)),
-    }
+    let mut input = inputs.open(plan)?;
+    let _total = check_against(alloc, plan, rows, channels, &mut input, output)?;
+    Ok(())
 }
 
 /// Writes the plan that holds all that the plan of one input accepts, for its bookings and those of another, and on standard error
@@ -110,10 +102,7 @@ pub fn amend_file<'a, I: Inputs, W: Write, E: Write>(
     ensures refused { IfErr result (IsNotAmended (I.gives inputs.old) day.entry.0.now day.entry.1.now plan.now bookings.now W.contents output.old output.new) }
 {
     let day = day_of(day.0, day.1)?;
-    let earlier = match plan_named(alloc, inputs, plan) {
-        Ok(earlier) => earlier,
-        Err(fault) => return Err(FileFault::Command(fault)),
-    };
+    let earlier = plan_named(alloc, inputs, plan)?;
     amend_with(alloc, inputs, &day, &earlier, bookings, output, errors)
 }
 

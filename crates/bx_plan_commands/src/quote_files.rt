@@ -35,18 +35,13 @@ pub fn explain_file<'a, I: Inputs, W: Write>(
     ensures explained { OnOk result (IsExplained (I.gives inputs.old) row plan.now (writing_of W.contents output.old output.new)) }
     ensures refused { IfErr result (IsNotExplained (I.gives inputs.old) row plan.now W.contents output.old output.new) }
 {
-    let plan = match proved_named(alloc, inputs, plan) {
-        Ok(plan) => plan,
-        Err(fault) => return Err(FileFault::Command(fault)),
-    };
+    let plan = proved_named(alloc, inputs, plan)?;
     let done = match row {
         Some(row) => write_explained(alloc, &plan, row, output),
         None => write_refused(alloc, &plan, output),
     };
-    match done {
-        Ok(()) => Ok(()),
-        Err(fault) => Err(FileFault::Quote(fault)),
-    }
+    done?;
+    Ok(())
 }
 
 /// Writes what a call has to pay to be taken beside those of the plan of an input. At a refusal nothing was written, except that
@@ -64,14 +59,9 @@ pub fn quote_file<'a, I: Inputs, W: Write>(
     ensures refused { IfErr result (IsNotQuoted (I.gives inputs.old) call.now plan.now W.contents output.old output.new) }
 {
     let booking = booking_of(call)?;
-    let plan = match proved_named(alloc, inputs, plan) {
-        Ok(plan) => plan,
-        Err(fault) => return Err(FileFault::Command(fault)),
-    };
-    match write_quote(alloc, &plan, &booking, output) {
-        Ok(()) => Ok(()),
-        Err(fault) => Err(FileFault::Quote(fault)),
-    }
+    let plan = proved_named(alloc, inputs, plan)?;
+    write_quote(alloc, &plan, &booking, output)?;
+    Ok(())
 }
 
 /// The booking of the call. Its pay and its number do not count.
@@ -100,16 +90,10 @@ fn seconds_of<'a>(call: &Call<'_>) -> Result<(u32, u32), FileFault<'a>>
     ensures none { IfErr result (IsNoCall call.now) }
 {
     let Some((date, zone)) = call.day else {
-        return match counted(call) {
-            Ok(seconds) => Ok(seconds),
-            Err(fault) => Err(FileFault::Book(fault)),
-        };
+        return Ok(counted(call)?);
     };
     let day = day_of(date, zone)?;
-    match times_of(call, &day) {
-        Ok(seconds) => Ok(seconds),
-        Err(fault) => Err(FileFault::Book(fault)),
-    }
+    Ok(times_of(call, &day)?)
 }
 
 /// The seconds of the day at which the times of the call lie.

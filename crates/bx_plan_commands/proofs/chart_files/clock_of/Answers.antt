@@ -1,8 +1,11 @@
+use Rattle.std.proofs.lemmas.Result.{err_from_is_err_and}
 use Rattle.bx_plan_commands.proofs.NamedDays.{no_day}
 use Rattle.bx_plan_commands.proofs.chart_files.clock_of.Goals as goal
 
-pub returns-in-Err-clause-none : goal.returns-in-Err-clause-none
-returns-in-Err-clause-none c = rw c.in-Some.is (no_day c.in-Some.date.now c.in-Some.zone.now c.in-Err.fault c.in-Err.ensures.bad_date c.in-Err.ensures.bad_zone c.in-Err.ensures.out c.in-Err.ensures.odd)
+pub returns-in_err-new-clause-none : goal.returns-in_err-new-clause-none
+returns-in_err-new-clause-none c =
+    let p = err_from_is_err_and c.from_residual.result c.from_residual.ensures.1 in
+    rw (p.1, p.2, c.in-Some.is) (no_day c.in-Some.date.now c.in-Some.zone.now c.in_err-new.field-0.0 c.in_err-new.ensures.bad_date c.in_err-new.ensures.bad_zone c.in_err-new.ensures.out c.in_err-new.ensures.odd)
 
-pub returns-in-Ok-clause-clock : goal.returns-in-Ok-clause-clock
-returns-in-Ok-clause-clock c = rw c.in-Some.is c.in-Ok.ensures.clock
+pub returns-clause-clock : goal.returns-clause-clock
+returns-clause-clock c = rw c.in-Some.is c.in_ok-new.ensures.clock
