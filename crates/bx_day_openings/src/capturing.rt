@@ -31,14 +31,8 @@ pub fn first_of<'a>(capture: Option<CaptureWords<'a>>) -> Result<u32, DayCommand
     let Some((date, zone)) = day else {
         return Ok(0);
     };
-    let day = match Day::new(date, zone) {
-        Ok(day) => day,
-        Err(fault) => return Err(DayCommandFault::Day(fault)),
-    };
-    match first_second(&day) {
-        Ok(first) => Ok(first),
-        Err(fault) => Err(DayCommandFault::Capture(fault)),
-    }
+    let day = Day::new(date, zone)?;
+    Ok(first_second(&day)?)
 }
 
 /// The file, with the header of a capture after what stands in it, written once.

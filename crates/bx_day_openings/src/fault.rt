@@ -4,9 +4,11 @@ use crate::reselling::SaleFault;
 use bx_calendar::DayFault;
 use bx_capture::BeyondCapture;
 use bx_check_commands::CommandFault;
+use bx_devices::WriteFailed;
 use bx_far::ScriptFault;
 use bx_frames::LinkFault;
 use bx_journal::JournalFault;
+use std::alloc::AllocError;
 use thiserror::Error;
 
 /// The refusal of a command that runs a day, or tells one from its journal.
@@ -42,4 +44,72 @@ pub enum DayCommandFault<'a> {
     /// The session of the day ended before the day did.
     #[error(transparent)]
     Link(LinkFault),
+}
+
+impl<'a> From<CommandFault<'a>> for DayCommandFault<'a> {
+    ghost use Rattle.std.specs.Prelude.{◌≡◌};
+    ghost use Rattle.bx_day_openings.specs.declared.fault.DayCommandFault.TheVariants.{Command};
+
+    ghost from_gives = { λ fault told. told ≡ Command fault };
+
+    fn from(fault: CommandFault<'a>) -> DayCommandFault<'a> {
+        DayCommandFault::Command(fault)
+    }
+}
+
+impl<'a> From<DayFault> for DayCommandFault<'a> {
+    ghost use Rattle.std.specs.Prelude.{◌≡◌};
+    ghost use Rattle.bx_day_openings.specs.declared.fault.DayCommandFault.TheVariants.{Day};
+
+    ghost from_gives = { λ fault told. told ≡ Day fault };
+
+    fn from(fault: DayFault) -> DayCommandFault<'a> {
+        DayCommandFault::Day(fault)
+    }
+}
+
+impl<'a> From<BeyondCapture> for DayCommandFault<'a> {
+    ghost use Rattle.std.specs.Prelude.{◌≡◌};
+    ghost use Rattle.bx_day_openings.specs.declared.fault.DayCommandFault.TheVariants.{Capture};
+
+    ghost from_gives = { λ fault told. told ≡ Capture fault };
+
+    fn from(fault: BeyondCapture) -> DayCommandFault<'a> {
+        DayCommandFault::Capture(fault)
+    }
+}
+
+impl<'a> From<SaleFault> for DayCommandFault<'a> {
+    ghost use Rattle.std.specs.Prelude.{◌≡◌};
+    ghost use Rattle.bx_day_openings.specs.declared.fault.DayCommandFault.TheVariants.{Sale};
+
+    ghost from_gives = { λ fault told. told ≡ Sale fault };
+
+    fn from(fault: SaleFault) -> DayCommandFault<'a> {
+        DayCommandFault::Sale(fault)
+    }
+}
+
+impl<'a> From<AllocError> for DayCommandFault<'a> {
+    ghost use Rattle.std.specs.Prelude.{◌≡◌};
+    ghost use Rattle.bx_check_commands.specs.declared.fault.CommandFault.TheVariants.{Memory};
+    ghost use Rattle.bx_day_openings.specs.declared.fault.DayCommandFault.TheVariants.{Command};
+
+    ghost from_gives = { λ _ told. told ≡ Command Memory };
+
+    fn from(_e: AllocError) -> DayCommandFault<'a> {
+        DayCommandFault::Command(CommandFault::Memory)
+    }
+}
+
+impl<'a> From<WriteFailed> for DayCommandFault<'a> {
+    ghost use Rattle.std.specs.Prelude.{◌≡◌};
+    ghost use Rattle.bx_check_commands.specs.declared.fault.CommandFault.TheVariants.{CannotWrite};
+    ghost use Rattle.bx_day_openings.specs.declared.fault.DayCommandFault.TheVariants.{Command};
+
+    ghost from_gives = { λ _ told. told ≡ Command CannotWrite };
+
+    fn from(_e: WriteFailed) -> DayCommandFault<'a> {
+        DayCommandFault::Command(CommandFault::CannotWrite)
+    }
 }

@@ -29,10 +29,7 @@ fn beginning_of<'a>(day: &Day) -> Result<u32, DayCommandFault<'a>>
     ensures limit { IfOk result (λ first. first ≤ LAST_START) }
     ensures refused { IfErr result (IsUnnamed day.now) }
 {
-    match first_second(day) {
-        Ok(first) => Ok(first),
-        Err(fault) => Err(DayCommandFault::Capture(fault)),
-    }
+    Ok(first_second(day)?)
 }
 
 /// When the seconds of the day of these words begin; a pace of 0 is 1. `Day` where the date and the zone are no day, `Capture` where it
@@ -42,10 +39,7 @@ pub fn hours_of<'a>(hours: DayHours<'a>) -> Result<Hours, DayCommandFault<'a>>
     ensures limit { IfOk result (λ hours. hours.first ≤ LAST_START) }
     ensures refused { IfErr result (IsNoHours hours.entry) }
 {
-    let day = match Day::new(hours.date, hours.zone) {
-        Ok(day) => day,
-        Err(fault) => return Err(DayCommandFault::Day(fault)),
-    };
+    let day = Day::new(hours.date, hours.zone)?;
     let first = beginning_of(&day)?;
     let pace = hours.pace.max(1);
     Ok(Hours {

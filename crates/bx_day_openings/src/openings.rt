@@ -77,10 +77,7 @@ pub fn far_end_of<'a, I: Inputs>(
     ensures opened { IfOk result IsFarOpening }
     ensures refused { IfErr result (IsNoFarEnd name.now) }
 {
-    let mut input = match inputs.open(name) {
-        Ok(input) => input,
-        Err(fault) => return Err(DayCommandFault::Command(fault)),
-    };
+    let mut input = inputs.open(name)?;
     let script = script_from(alloc, name, &mut input)?;
     Ok(Far::new(script))
 }

@@ -10,7 +10,7 @@ ghost use Rattle.bx_day_openings.specs.TiedDays.{IsTiedDay, IsTiedOpening, IsOpe
 use crate::tied::{TiedPlan, tied_named};
 use crate::{DayCommandFault, turns_of};
 use bx_base::ChannelSet;
-use bx_check_commands::{CommandFault, Inputs};
+use bx_check_commands::Inputs;
 use bx_day::Exchange;
 use std::alloc::Global;
 
@@ -36,14 +36,12 @@ pub fn opening_of<'a>(alloc: Global, tied: &TiedPlan) -> Result<DayOpening, DayC
     ensures opened { IfOk result (IsOpened tied.now) }
     ensures refused { IfErr result (λ fault. fault ≡ DayCommandFault.Command commands.Memory) }
 {
-    match Exchange::new(alloc, &tied.plan) {
-        Ok(exchange) => Ok(DayOpening {
-            exchange,
-            channels: tied.plan.channels,
-            digest: tied.digest,
-        }),
-        Err(_) => Err(DayCommandFault::Command(CommandFault::Memory)),
-    }
+    let exchange = Exchange::new(alloc, &tied.plan)?;
+    Ok(DayOpening {
+        exchange,
+        channels: tied.plan.channels,
+        digest: tied.digest,
+    })
 }
 
 /// The same of the plan of an input.
@@ -57,10 +55,8 @@ pub fn day_opening<'a, I: Inputs>(
     ensures refused { IfErr result (IsNoOpening name.now) }
     ensures no_more { (other : List ℕ) (text : Option (List ℕ)) → I.gives inputs.new other text → I.gives inputs.old other text }
 {
-    match tied_named(alloc, inputs, name) {
-        Ok(tied) => opening_of(alloc, &tied),
-        Err(fault) => Err(DayCommandFault::Command(fault)),
-    }
+    let tied = tied_named(alloc, inputs, name)?;
+    opening_of(alloc, &tied)
 }
 
 /// The opening of the day of the plan of an input.
@@ -73,20 +69,15 @@ pub fn tied_opening<'a, I: Inputs>(
     ensures opened { IfOk result (λ opened. IsTiedDay turns opened.exchange opened.digest opened.turns) }
     ensures refused { IfErr result (IsNoOpening name.now) }
 {
-    let tied = match tied_named(alloc, inputs, name) {
-        Ok(tied) => tied,
-        Err(fault) => return Err(DayCommandFault::Command(fault)),
-    };
+    let tied = tied_named(alloc, inputs, name)?;
     let turns = match turns {
         Some(turns) => turns,
         None => turns_of(&tied.plan),
     };
-    match Exchange::new(alloc, &tied.plan) {
-        Ok(exchange) => Ok(Opening {
-            exchange,
-            digest: tied.digest,
-            turns,
-        }),
-        Err(_) => Err(DayCommandFault::Command(CommandFault::Memory)),
-    }
+    let exchange = Exchange::new(alloc, &tied.plan)?;
+    Ok(Opening {
+        exchange,
+        digest: tied.digest,
+        turns,
+    })
 }

@@ -32,10 +32,7 @@ pub fn clock_of<'a>(day: Option<(&'a str, &'a str)>) -> Result<Option<Clock>, Da
     let Some((date, zone)) = day else {
         return Ok(None);
     };
-    match Clock::new(date, zone) {
-        Ok(clock) => Ok(Some(clock)),
-        Err(fault) => Err(DayCommandFault::Day(fault)),
-    }
+    Ok(Some(Clock::new(date, zone)?))
 }
 
 /// The clock by which records are to be written: none where their moments are seconds, or nothing is to be written. `Day` where the

@@ -46,10 +46,7 @@ pub fn replay_journal<'a, R: Read>(
 {
     let mut selling = Selling::new(alloc, channels, exchange);
     let whole = read_journal(journal, wanted, &mut selling);
-    let exchange = match selling.into_exchange() {
-        Ok(exchange) => exchange,
-        Err(fault) => return Err(DayCommandFault::Sale(fault)),
-    };
+    let exchange = selling.into_exchange()?;
     journal_read(name, whole)?;
     Ok(Replayed { exchange, whole })
 }

@@ -7,19 +7,22 @@ use Rattle.bx_day_openings.proofs.ToldJournals.{not_followed, followed_whole}
 use Rattle.bx_day_openings.proofs.Replays.{followed_as, bad_sale, went, stopped, goes_on, no_replay}
 use Rattle.bx_day_openings.proofs.replaying.replay_journal.Goals as goal
 
-pub returns-in-Err-clause-refused : goal.returns-in-Err-clause-refused
-returns-in-Err-clause-refused g c =
+pub returns-in_err-exchange-clause-refused : goal.returns-in_err-exchange-clause-refused
+returns-in_err-exchange-clause-refused g c =
     let read = c.read_journal-whole in
     let fresh = c.new-selling in
-    bad_sale IsAfter (is_faulted read.new.device) (g.R.Read.remaining (device_of c.args.journal.now)) (g.R.Read.remaining (device_of read.new.device)) c.args.wanted.now fresh.result read.new.follower c.args.channels c.args.exchange read.new.follower.exchange c.in-Err.fault
-    (λ events h. stopped c.args.channels c.args.exchange fresh.result read.new.follower fresh.ensures.channels fresh.ensures.exchange fresh.ensures.sale events h c.in-Err.fault c.in-Err.ensures.stopped) read.result read.ensures.read
+    let fault = c.in_err-exchange.field-0.0 in
+    let p = err_from_is_err_and c.from_residual.result c.from_residual.ensures.1 in
+    rw (p.1, p.2)
+    (bad_sale IsAfter (is_faulted read.new.device) (g.R.Read.remaining (device_of c.args.journal.now)) (g.R.Read.remaining (device_of read.new.device)) c.args.wanted.now fresh.result read.new.follower c.args.channels c.args.exchange read.new.follower.exchange fault
+    (λ events h. stopped c.args.channels c.args.exchange fresh.result read.new.follower fresh.ensures.channels fresh.ensures.exchange fresh.ensures.sale events h fault c.in_err-exchange.ensures.stopped) read.result read.ensures.read)
 
 pub returns-in_err-journal_read-clause-refused : goal.returns-in_err-journal_read-clause-refused
 returns-in_err-journal_read-clause-refused g c =
     let read = c.read_journal-whole in
     let before = g.R.Read.remaining (device_of c.args.journal.now) in
     let after = g.R.Read.remaining (device_of read.new.device) in
-    let p = err_from_is_err_and c.from_residual.result c.from_residual.ensures.1 in
+    let p = err_from_is_err_and c.from_residual-in_err-journal_read.result c.from_residual-in_err-journal_read.ensures.1 in
     rw (p.1, p.2)
     (no_replay c.args.name.now c.args.wanted.now c.args.channels c.args.exchange before after (is_faulted read.new.device) c.in_err-journal_read.field-0.0
     (not_followed IsAfter (is_faulted read.new.device) before after c.args.wanted.now c.new-selling.result read.new.follower c.args.name read.result (Err c.in_err-journal_read.field-0.0) c.in_err-journal_read.ensures read.ensures.read))
@@ -32,7 +35,7 @@ returns-clause-through g c =
     let after = g.R.Read.remaining (device_of read.new.device) in
     let day = read.new.follower.exchange in
     let followed = followed_as IsAfter (day_goes c.args.channels) (λ (s : Selling). s.exchange) (is_faulted read.new.device) before after c.args.wanted.now fresh.result read.new.follower
-    (λ events h. went c.args.channels fresh.result.exchange fresh.result read.new.follower fresh.ensures.channels refl fresh.ensures.sale events h c.in-Ok.ensures.whole.0) read.result read.ensures.read in
+    (λ events h. went c.args.channels fresh.result.exchange fresh.result read.new.follower fresh.ensures.channels refl fresh.ensures.sale events h c.in_ok-exchange.ensures.whole.0) read.result read.ensures.read in
     rw (← fresh.ensures.exchange)
-    (goes_on c.args.channels c.args.wanted.now before fresh.result.exchange day c.in-Ok.exchange c.journal_read.result c.in_ok-journal_read.field-0 c.in_ok-journal_read.was c.in-Ok.ensures.whole.1
+    (goes_on c.args.channels c.args.wanted.now before fresh.result.exchange day c.in_ok-exchange.exchange c.journal_read.result c.in_ok-journal_read.field-0 c.in_ok-journal_read.was c.in_ok-exchange.ensures.whole.1
     (followed_whole (day_goes c.args.channels) (is_faulted read.new.device) before after c.args.wanted.now fresh.result.exchange day c.args.name read.result c.journal_read.result c.journal_read.ensures followed))
