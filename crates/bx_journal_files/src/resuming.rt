@@ -68,10 +68,7 @@ pub fn resume_on<'a, F: Read + DiskFile + Drop>(
         ..
     } = opening;
     let wanted = head.wanted();
-    let replayed = match replay_journal(alloc, name, &mut journal, &wanted, channels, exchange) {
-        Ok(replayed) => replayed,
-        Err(fault) => return Err(LiveFault::Day(fault)),
-    };
+    let replayed = replay_journal(alloc, name, &mut journal, &wanted, channels, exchange)?;
     let mut disk = FileDisk::new(journal.into_inner());
     match make_ready(&mut disk, head, replayed.whole) {
         Ok(()) => Ok(Resumed {
