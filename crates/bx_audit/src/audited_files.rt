@@ -16,7 +16,7 @@ ghost use Rattle.bx_devices.specs.Watching.{device_of};
 
 use crate::telling::audited_day;
 use bx_capture::is_whole;
-use bx_check_commands::{CommandFault, Inputs, open};
+use bx_check_commands::{Inputs, open};
 use bx_day::Exchange;
 use bx_day_openings::{
     DayCommandFault, DayOpening, TiedPlan, captured, file_of, first_of, opening_of, replay_journal,
@@ -38,20 +38,15 @@ fn read_through<'a, H: Files + AllocGlobal + Eprint>(
     ensures read { OnOk result ((day : Day) × IsDayThrough opening.channels (of_any_day opening.digest) None opening.exchange day) }
     ensures refused { IfErr result (HasNoReplay name.now (of_any_day opening.digest) opening.channels opening.exchange) }
 {
-    let mut journal = match open(rt, name) {
-        Ok(journal) => journal,
-        Err(fault) => return Err(DayCommandFault::Command(fault)),
-    };
+    let mut journal = open(rt, name)?;
     let DayOpening {
         exchange,
         channels,
         digest,
     } = opening;
     let wanted = Wanted::of_any_day(&digest);
-    match replay_journal(rt.alloc(), name, &mut journal, &wanted, channels, exchange) {
-        Ok(_) => Ok(()),
-        Err(fault) => Err(fault),
-    }
+    let _through = replay_journal(rt.alloc(), name, &mut journal, &wanted, channels, exchange)?;
+    Ok(())
 }
 
 /// The plan of an input whose journal in a file is read through.
@@ -65,10 +60,7 @@ fn tied_through<'a, H: Files + AllocGlobal + Eprint, I: Inputs>(
     ensures through { OnOk result HasJournal }
     ensures refused { IfErr result (IsUnreadThrough plan.now journal.now) }
 {
-    let tied = match tied_named(rt.alloc(), inputs, plan) {
-        Ok(tied) => tied,
-        Err(fault) => return Err(DayCommandFault::Command(fault)),
-    };
+    let tied = tied_named(rt.alloc(), inputs, plan)?;
     let opening = opening_of(rt.alloc(), &tied)?;
     read_through(rt, journal, opening)?;
     Ok(tied)
@@ -107,10 +99,7 @@ fn audited_from<'a, H: Files + AllocGlobal + Eprint>(
     ensures stopped { IfErr result (StopsAudit H.File.contents request.entry) }
 {
     let file = file_of(rt, request.capture)?;
-    let journal = match open(rt, request.journal) {
-        Ok(journal) => journal,
-        Err(fault) => return Err(DayCommandFault::Command(fault)),
-    };
+    let journal = open(rt, request.journal)?;
     let opening = opening_of(rt.alloc(), tied)?;
     audited_into(rt.alloc(), request.journal, journal, opening, file, first)
 }
@@ -148,8 +137,6 @@ pub fn audit_files<'a, H: Files + AllocGlobal + Eprint, I: Inputs, W: Write>(
     ensures refused { IfErr result (IsAuditRefusal request.entry H.File.contents W.contents output.old output.new) }
 {
     let (exchange, is_whole) = audited_in(rt, inputs, request)?;
-    match exchange.write_outcomes(output) {
-        Ok(()) => captured(request.capture, is_whole),
-        Err(_) => Err(DayCommandFault::Command(CommandFault::CannotWrite)),
-    }
+    exchange.write_outcomes(output)?;
+    captured(request.capture, is_whole)
 }

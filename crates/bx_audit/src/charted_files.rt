@@ -41,27 +41,20 @@ fn seen_from<'a, I: Inputs>(
     ensures seen { IfOk result (λ seen. IsGivenSeen (I.gives inputs.old) journal.now day seen.exchange (sight_of seen.sight)) }
     ensures unseen { IfErr result (IsJournalUnseen (I.gives inputs.old) journal.now day) }
 {
-    let mut input = match inputs.open(journal) {
-        Ok(input) => input,
-        Err(fault) => return Err(DayCommandFault::Command(fault)),
-    };
+    let mut input = inputs.open(journal)?;
     let wanted = Wanted::of_any_day(&day.digest);
     let channels = day.channels;
-    match seen_by(alloc, journal, &mut input, &wanted, channels, day.exchange) {
-        Ok(seen) => {
-            let is_over = is_over(&seen.exchange);
-            let sight = DaySight {
-                outages: seen.outages,
-                is_over,
-            };
-            Ok(SeenDay {
-                exchange: seen.exchange,
-                channels,
-                sight,
-            })
-        }
-        Err(fault) => Err(fault),
-    }
+    let seen = seen_by(alloc, journal, &mut input, &wanted, channels, day.exchange)?;
+    let is_over = is_over(&seen.exchange);
+    let sight = DaySight {
+        outages: seen.outages,
+        is_over,
+    };
+    Ok(SeenDay {
+        exchange: seen.exchange,
+        channels,
+        sight,
+    })
 }
 
 /// The day of the plan of one input after just the events and sales of the journal of another.

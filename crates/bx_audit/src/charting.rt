@@ -8,7 +8,6 @@ ghost use Rattle.bx_devices.specs.Devices.{reading_of};
 
 use crate::noting::Noting;
 use bx_base::ChannelSet;
-use bx_check_commands::CommandFault;
 use bx_day::Exchange;
 use bx_day_chart::Outages;
 use bx_day_openings::{DayCommandFault, Selling, journal_read};
@@ -67,13 +66,8 @@ pub(crate) fn seen_by<'a, R: Read>(
     };
     let whole = read_journal(journal, wanted, &mut charting);
     let Charting { selling, noting } = charting;
-    let exchange = match selling.into_exchange() {
-        Ok(exchange) => exchange,
-        Err(fault) => return Err(DayCommandFault::Sale(fault)),
-    };
+    let exchange = selling.into_exchange()?;
     journal_read(name, whole)?;
-    match noting.into_outages() {
-        Ok(outages) => Ok(Seen { exchange, outages }),
-        Err(_) => Err(DayCommandFault::Command(CommandFault::Memory)),
-    }
+    let outages = noting.into_outages()?;
+    Ok(Seen { exchange, outages })
 }

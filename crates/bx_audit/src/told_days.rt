@@ -30,19 +30,14 @@ fn told_from<'a, I: Inputs>(
     ensures told { IfOk result (λ told. IsGivenThrough (I.gives inputs.old) journal.now day told.exchange) }
     ensures untold { IfErr result (IsNoJournalOf (I.gives inputs.old) journal.now day.digest day.channels day.exchange) }
 {
-    let mut input = match inputs.open(journal) {
-        Ok(input) => input,
-        Err(fault) => return Err(DayCommandFault::Command(fault)),
-    };
+    let mut input = inputs.open(journal)?;
     let wanted = Wanted::of_any_day(&day.digest);
     let channels = day.channels;
-    match replay_journal(alloc, journal, &mut input, &wanted, channels, day.exchange) {
-        Ok(replayed) => Ok(ToldDay {
-            exchange: replayed.exchange,
-            channels,
-        }),
-        Err(fault) => Err(fault),
-    }
+    let replayed = replay_journal(alloc, journal, &mut input, &wanted, channels, day.exchange)?;
+    Ok(ToldDay {
+        exchange: replayed.exchange,
+        channels,
+    })
 }
 
 /// The exchange after just the events and sales of the journal of one input, from the opening of the day of the plan of another on.

@@ -14,23 +14,23 @@ returns-in_err-exchange-clause-refused g c =
     rw (p.1, p.2)
     (stopped c.args.request g.H.File.Write.contents g.W.Write.contents c.args.output.now fault c.in_err-exchange.ensures.stopped)
 
-pub returns-in-Ok-clause-done : goal.returns-in-Ok-clause-done
-returns-in-Ok-clause-done g c =
+pub returns-clause-done : goal.returns-clause-done
+returns-clause-done g c =
     let files = g.H.File.Write.contents in
     let capture = c.args.request.capture in
     let ended = c.in_ok-exchange.exchange in
     let is_whole = c.in_ok-exchange.is_whole in
     let audit = c.in_ok-exchange.ensures.audited in
     on_ok _ (IsAuditToldWhole files capture (writing_of g.W.Write.contents c.args.output.now c.write_outcomes.new.writer)) c.captured.result
-    (λ whole. record { day = ended; audit = subst (λ (b : Bool). IsDayAudited files capture ended b) (whole_without files capture ended is_whole audit whole) audit; written = c.in-Ok.ensures.ok }) c.captured.ensures.whole
+    (λ whole. record { day = ended; audit = subst (λ (b : Bool). IsDayAudited files capture ended b) (whole_without files capture ended is_whole audit whole) audit; written = c.in_ok-write_outcomes.ensures.ok }) c.captured.ensures.whole
 
-pub returns-in-Ok-clause-refused : goal.returns-in-Ok-clause-refused
-returns-in-Ok-clause-refused g c =
+pub returns-clause-refused : goal.returns-clause-refused
+returns-clause-refused g c =
     let files = g.H.File.Write.contents in
     let old = c.args.output.now in
     let new = c.write_outcomes.new.writer in
     let before = g.W.Write.contents (device_of old) in
     let after = g.W.Write.contents (device_of new) in
-    let told : IsAuditTold files c.args.request.capture before after c.in_ok-exchange.is_whole = record { day = c.in_ok-exchange.exchange; audit = c.in_ok-exchange.ensures.audited; written = c.in-Ok.ensures.ok } in
+    let told : IsAuditTold files c.args.request.capture before after c.in_ok-exchange.is_whole = record { day = c.in_ok-exchange.exchange; audit = c.in_ok-exchange.ensures.audited; written = c.in_ok-write_outcomes.ensures.ok } in
     if_err _ _ c.captured.result
     (λ fault cut. uncaptured c.args.request files g.W.Write.contents old new fault (subst (λ (b : Bool). IsAuditTold files c.args.request.capture before after b) cut.1 told) cut.0) c.captured.ensures.cut

@@ -1,4 +1,5 @@
 use Rattle.std.proofs.Common.{inl, inr}
+use Rattle.std.proofs.lemmas.Result.{err_from_is_err_and}
 use Rattle.bx_devices.specs.Watching.{device_of}
 use Rattle.bx_journal.specs.Heads.{of_any_day}
 use Rattle.bx_day_openings.proofs.Replays.{if_ok, unopened}
@@ -8,15 +9,17 @@ use Rattle.bx_audit.proofs.Audited.{opens_with, untold}
 use Rattle.bx_audit.proofs.Handed.{if_err}
 use Rattle.bx_audit.proofs.audited_files.audited_from.Goals as goal
 
-pub returns-in-Err-clause-stopped : goal.returns-in-Err-clause-stopped
-returns-in-Err-clause-stopped g c =
+pub returns-in_err-journal-clause-stopped : goal.returns-in_err-journal-clause-stopped
+returns-in_err-journal-clause-stopped g c =
     let day = c.requires.through in
-    inr (inr (inl ((c.args.first, c.requires.begins), (day.0, day.1, day.2, day.3, unopened c.args.request.journal.now (of_any_day day.2) day.1 day.0 c.in-Err.fault c.in-Err.ensures))))
+    let p = err_from_is_err_and c.from_residual-in_err-journal.result c.from_residual-in_err-journal.ensures.1 in
+    rw (p.1, p.2)
+    (inr (inr (inl ((c.args.first, c.requires.begins), (day.0, day.1, day.2, day.3, unopened c.args.request.journal.now (of_any_day day.2) day.1 day.0 c.in_err-journal.field-0.0 c.in_err-journal.ensures)))))
 
 pub returns-clause-audited : goal.returns-clause-audited
 returns-clause-audited g c =
     let o = c.in_ok-opening.opening in
-    if_ok (λ audited. IsAuditedInto g.H.File.Write.contents o (g.H.File.Read.remaining (device_of c.in-Ok.journal)) c.in_ok-file.file c.args.first audited.0 audited.1) (λ audited. IsDayAudited g.H.File.Write.contents c.args.request.capture audited.0 audited.1) c.audited_into.result
+    if_ok (λ audited. IsAuditedInto g.H.File.Write.contents o (g.H.File.Read.remaining (device_of c.in_ok-journal.journal)) c.in_ok-file.file c.args.first audited.0 audited.1) (λ audited. IsDayAudited g.H.File.Write.contents c.args.request.capture audited.0 audited.1) c.audited_into.result
     (λ audited told. record {
       opened = o.exchange;
       channels = o.channels;

@@ -5,12 +5,14 @@ use Rattle.bx_audit.proofs.Audited.{opens_with}
 use Rattle.bx_audit.specs.Inside.{IsUnreadThrough}
 use Rattle.bx_audit.proofs.audited_files.tied_through.Goals as goal
 
-pub returns-in-Err-clause-refused : goal.returns-in-Err-clause-refused
-returns-in-Err-clause-refused g c = inl c.in-Err.ensures.none
+pub returns-in_err-tied-clause-refused : goal.returns-in_err-tied-clause-refused
+returns-in_err-tied-clause-refused g c =
+    let p = err_from_is_err_and c.from_residual.result c.from_residual.ensures.1 in
+    rw (p.1, p.2) (inl c.in_err-tied.ensures.none)
 
 pub returns-in_err-opening-clause-refused : goal.returns-in_err-opening-clause-refused
 returns-in_err-opening-clause-refused g c =
-    let p = err_from_is_err_and c.from_residual.result c.from_residual.ensures.1 in
+    let p = err_from_is_err_and c.from_residual-in_err-opening.result c.from_residual-in_err-opening.ensures.1 in
     rw (p.1, p.2)
     (subst (λ (fault : DayCommandFault). IsUnreadThrough c.args.plan.now c.args.journal.now fault) (sym c.in_err-opening.ensures.refused) (inl tt))
 
@@ -19,9 +21,9 @@ returns-in_err-read_through-clause-refused g c =
     let o = c.in_ok-opening.opening in
     let p = err_from_is_err_and c.from_residual-in_err-read_through.result c.from_residual-in_err-read_through.ensures.1 in
     rw (p.1, p.2)
-    (inr (o.exchange, o.channels, o.digest, opens_with c.in-Ok.tied o c.in-Ok.ensures.found c.in_ok-opening.ensures.opened, c.in_err-read_through.ensures.refused))
+    (inr (o.exchange, o.channels, o.digest, opens_with c.in_ok-tied.tied o c.in_ok-tied.ensures.found c.in_ok-opening.ensures.opened, c.in_err-read_through.ensures.refused))
 
 pub returns-clause-through : goal.returns-clause-through
 returns-clause-through g c =
     let o = c.in_ok-opening.opening in
-    (o.exchange, o.channels, o.digest, opens_with c.in-Ok.tied o c.in-Ok.ensures.found c.in_ok-opening.ensures.opened, c.in_ok-read_through.ensures.read)
+    (o.exchange, o.channels, o.digest, opens_with c.in_ok-tied.tied o c.in_ok-tied.ensures.found c.in_ok-opening.ensures.opened, c.in_ok-read_through.ensures.read)
