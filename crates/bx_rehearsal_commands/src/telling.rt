@@ -43,8 +43,6 @@ pub fn tell<'a, F: Write + Drop, W: Write>(
     if told.is_err() {
         return Err(LiveFault::Day(DayCommandFault::Command(CommandFault::CannotWrite)));
     }
-    match kept(capture, is_whole, recorded) {
-        Ok(()) => Ok(()),
-        Err(fault) => Err(LiveFault::Day(fault)),
-    }
+    kept(capture, is_whole, recorded)?;
+    Ok(())
 }
