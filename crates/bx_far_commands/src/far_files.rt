@@ -12,7 +12,7 @@ ghost use Rattle.bx_devices.specs.Devices.{writing_of};
 
 use crate::running::run_connected;
 use bx_capture::is_whole;
-use bx_check_commands::{CommandFault, Inputs};
+use bx_check_commands::Inputs;
 use bx_day_openings::{DayCommandFault, System, captured, far_end_of, file_of, first_of};
 use bx_devices::{Watched, WriteFailed, write_octets};
 use bx_request::{FarRequest, Sight};
@@ -64,10 +64,8 @@ fn far_files<'a, H: System, I: Inputs, W: Write>(
     ensures refused { IfErr result (IsFarNotDone H.File.contents request.entry W.contents output.old output.new) }
 {
     let (moment, is_whole) = run_script(rt, inputs, request, is_shown)?;
-    match write_ended(output, moment) {
-        Ok(()) => Ok(is_whole),
-        Err(_) => Err(DayCommandFault::Command(CommandFault::CannotWrite)),
-    }
+    write_ended(output, moment)?;
+    Ok(is_whole)
 }
 
 /// Whether the moment is shown: on a terminal alone, and where it is wanted.

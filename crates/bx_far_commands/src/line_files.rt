@@ -8,7 +8,7 @@ ghost use Rattle.bx_far_commands.specs.LineRefusals.{StopsFarLine, IsFarLineNotD
 use crate::by_line::{LineView, run_over_wire};
 use crate::far_files::write_ended;
 use bx_calendar::Clock as DayClock;
-use bx_check_commands::{CommandFault, Inputs};
+use bx_check_commands::Inputs;
 use bx_day_openings::{DayCommandFault, captured, far_end_of, file_of, hours_of, line_between};
 use bx_devices::Watched;
 use bx_line_world::UdpWire;
@@ -86,10 +86,8 @@ fn far_line_files<'a, H: Files + AllocGlobal + Clock + Eprint + Net, I: Inputs, 
     ensures refused { IfErr result (IsFarLineNotDone H H.File.contents request.entry W.contents output.old output.new) }
 {
     let (moment, is_whole) = run_script_by_line(rt, inputs, request, is_shown)?;
-    match write_ended(output, moment) {
-        Ok(()) => Ok(is_whole),
-        Err(_) => Err(DayCommandFault::Command(CommandFault::CannotWrite)),
-    }
+    write_ended(output, moment)?;
+    Ok(is_whole)
 }
 
 /// Whether the moment is shown: on a terminal alone, and where it is wanted.

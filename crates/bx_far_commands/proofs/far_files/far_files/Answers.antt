@@ -10,5 +10,5 @@ returns-in_err-moment-clause-refused g c =
     rw (p.1, p.2)
     (kept_output (StopsFarEnd g.H.File.Write.contents c.args.request) IsFarCut g.W.Write.contents c.args.output.now c.in_err-moment.field-0.0 (far_writes g.H.File.Write.contents c.args.request) c.in_err-moment.ensures.stopped)
 
-pub returns-in-Ok-clause-told : goal.returns-in-Ok-clause-told
-returns-in-Ok-clause-told g c = (record { moment = c.in_ok-moment.moment; run = c.in_ok-moment.ensures.ran.0; written = c.in-Ok.ensures.told }, c.in_ok-moment.ensures.ran.1)
+pub returns-clause-told : goal.returns-clause-told
+returns-clause-told g c = (record { moment = c.in_ok-moment.moment; run = c.in_ok-moment.ensures.ran.0; written = c.in_ok-write_ended.ensures.told }, c.in_ok-moment.ensures.ran.1)
