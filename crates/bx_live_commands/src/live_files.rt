@@ -54,10 +54,7 @@ fn live_opening<'a, I: Inputs>(
         Ok(false) => return Err(LiveFault::NotFirstFit),
         Err(_) => return Err(LiveFault::Day(DayCommandFault::Command(CommandFault::Memory))),
     }
-    match opening_of(alloc, &tied) {
-        Ok(opening) => Ok(opening),
-        Err(fault) => Err(LiveFault::Day(fault)),
-    }
+    Ok(opening_of(alloc, &tied)?)
 }
 
 /// Runs the rest of a day over a wire, with an office beside it where one is opened.

@@ -10,7 +10,6 @@ ghost use Rattle.bx_live_commands.specs.LiveRefusals.{IsNoOffice};
 use crate::by_office::Premises;
 use bx_base::ChannelSet;
 use bx_calendar::Day;
-use bx_check_commands::CommandFault;
 use bx_day::Exchange;
 use bx_day_openings::{AFTER_THE_LAST, DayCommandFault, System, day_turns, listener_at, unheard};
 use bx_office::Place as DoorPlace;
@@ -89,10 +88,7 @@ pub(crate) fn premises_of<'a, H: System>(
     match (request.office, request.journal) {
         (Some(place), Some(_)) => {
             let door = door_at(rt, place)?;
-            match premises_at(rt.alloc(), door, channels, day) {
-                Ok(premises) => Ok(Some(premises)),
-                Err(_) => Err(DayCommandFault::Command(CommandFault::Memory)),
-            }
+            Ok(Some(premises_at(rt.alloc(), door, channels, day)?))
         }
         _ => Ok(None),
     }
