@@ -5,7 +5,7 @@ use Rattle.bx_text.specs.declared.rows_fault.RowsFault.{RowsFault}
 use Rattle.bx_text.specs.declared.rows_fault.RowsFault.TheVariants as rows
 use Rattle.bx_book.specs.Rows.{Span}
 use Rattle.bx_book.specs.Texts.{book_form, IsBookFault}
-use Rattle.bx_book.specs.Inside.{told_as}
+use Rattle.bx_book.specs.RowFaults.{told_as}
 use Rattle.bx_book.specs.declared.fault.BookFault.{BookFault}
 use Rattle.bx_book.specs.declared.fault.BookFault.TheVariants as f
 

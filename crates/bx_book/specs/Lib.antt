@@ -1,4 +1,5 @@
 pub mod Rows
+pub mod RowFaults
 pub mod Inside
 pub mod Texts
 pub mod Passed

@@ -82,7 +82,7 @@ impl RowForm for BookRows {
 
 impl From<RowsFault<BookFault>> for BookFault {
     ghost use Rattle.std.specs.Prelude.{◌≡◌};
-    ghost use Rattle.bx_book.specs.Inside.{told_as};
+    ghost use Rattle.bx_book.specs.RowFaults.{told_as};
 
     ghost from_gives = { λ fault told. told ≡ told_as fault };
 

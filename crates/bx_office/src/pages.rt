@@ -73,6 +73,7 @@ const reasons = {
   NoChannel: \"at some moment of it no channel is left\",
   OtherChannels: \"this day's plan does not let calls be added\",
   Memory: \"the office has no memory left\",
+  AfterTheDay: \"it begins after the day that runs\",
 };
 const inWords = (text) => faults[text.split(\" \")[0].trim()] || text.trim();
 const ask = async (path, options) => {
@@ -87,7 +88,8 @@ const priced = (text) => {
 };
 const sold = (text) => {
   const fields = text.split(\"\\n\")[1].split(\",\");
-  return fields[1] === \"accepted\" ? `Booked: row ${fields[2]} of the plan.` : `Not booked: ${reasons[fields[3]] || fields[3]}.`;
+  const warning = fields[3] === \"TooShort\" ? \" It lasts less than three seconds, and may be too short to be carried.\" : \"\";
+  return fields[1] === \"accepted\" ? `Booked: row ${fields[2]} of the plan.${warning}` : `Not booked: ${reasons[fields[3]] || fields[3]}.`;
 };
 const quote = async () => {
   const query = new URLSearchParams({ start: time(\"start\"), end: time(\"end\") });
