@@ -80,7 +80,8 @@ impl Post {
             Indication::LinkEstablished => self.reset(),
             Indication::LinkReleased => self.reset(),
             Indication::LinkError(ErrorCode::PeerEstablishes) => self.reset(),
-            Indication::LinkError(ErrorCode::UnaskedFinal | ErrorCode::UaFinal | ErrorCode::Ua) => {}
+            Indication::LinkError(ErrorCode::UnaskedFinal | ErrorCode::UaFinal | ErrorCode::Ua) =>
+                {}
             Indication::LinkError(_) => self.asked = false,
         }
     }
