@@ -19,11 +19,11 @@ use Rattle.bx_lapd.specs.declared.frame.Frame.{Frame}
 use Rattle.bx_lapd.specs.declared.frame.Frame.TheVariants.{Information, Numbered, Plain}
 use Rattle.bx_lapd.specs.declared.indication.Indication.{Indication}
 use Rattle.bx_lapd.specs.declared.indication.Indication.TheVariants.{LinkReleased, Delivered, LinkError}
-use Rattle.bx_lapd.specs.Links.{Link, LinkStep, does, follows_step, is_valid, outstanding, numbered_frames, establishing, begun_link, assigned, discarded, acknowledged, is_established, is_recovering, is_link_up, sendable, acknowledges, flushes, flush, n200, t200, is_clear}
+use Rattle.bx_lapd.specs.Links.{Link, LinkStep, does, follows_step, is_valid, outstanding, numbered_frames, establishing, begun_link, assigned, discarded, acknowledged, is_established, is_recovering, is_link_up, sendable, acknowledges, flushes, flush, n200, t200, is_at_rest}
 use Rattle.bx_lapd.specs.Table.{establish, release, takes_data, give, is_due, enquires, expires, elapse, established_anew, hear_sabme, confirmed, hear_ua, answers, took, rejects, hear_message, timed, settled, hear_number, hear_information, is_not_ready, hear_supervised, unasked, hear_numbered, link_heard, hear, poll}
 use Rattle.bx_lapd.specs.World.{LinkWorld, EndEvent, Gives, Hears, Loses, Elapses, Asks, Releases, LinkWorldEvent, AtNear, AtFar, messages_of, near_becomes, comes, frames_lost, at_near, swapped, link_world_happens, link_world_after, Polls}
 use Rattle.bx_lapd.specs.Anew.{is_begun_by_sabme, is_begun_by_ua, begins_link_by, begins_link, renewed, near_since, since_happens, since_after, is_sabme, is_ua, frames_counted, IsTimely, IsTimelyIn, AreTimely, SameLinks, AreIdle, Anew}
-use Rattle.bx_lapd.proofs.Clear.{clear_up}
+use Rattle.bx_lapd.proofs.AtRest.{at_rest_up}
 use Rattle.bx_lapd.proofs.Media.{Confirms}
 use Rattle.bx_lapd.proofs.Flow.{Flow}
 use Rattle.bx_lapd.proofs.Sinks.{deaf_give, deaf_elapse, deaf_poll}
@@ -866,7 +866,7 @@ near_elapses g d k e l p out back now timely t = by_up (Timely g d' k e s.link p
 -- ---- a poll
 
 ends_poll : (l : Link) (now : ℕ) → is_link_up l.state ≡ true → Ends (poll l now)
-ends_poll l now h = at (is_clear l)
+ends_poll l now h = at (is_at_rest l)
   where
     at : (b : Bool) → Ends (if b then enquires l 0 now else does l [] [])
     at true = Stays refl (tt, tt)
@@ -878,7 +878,7 @@ near_polls g d k e l p out back now t = by_up (Timely g d' k e s.link p (out ++ 
     (λ h. near_up g d k e g d' l p out back back s h (ends_poll l now h) (rest_same back)
     (λ up c. waits_more l s.link g g d d' out s.frames (λ x w. waiting_of g d x s (deaf_poll l now).none w.none (kept_poll g [] [] [] l fresh x [] w.n now w.tight w.joint)) (counted_uas s.frames c) (t.far.waits h))
     (λ up far. (let o = t.both h far in both_of g d k e p out back s (kept_poll g d k e l p out back o.0 now o.2 o.1))) t)
-    (λ down. at down (is_clear l) refl)
+    (λ down. at down (is_at_rest l) refl)
   where
     s : LinkStep
     s = poll l now
@@ -889,8 +889,8 @@ near_polls g d k e l p out back now t = by_up (Timely g d' k e s.link p (out ++ 
     step : Bool → LinkStep
     step b = if b then enquires l 0 now else does l [] []
 
-    at : is_link_up l.state ≡ false → (b : Bool) → is_clear l ≡ b → Timely g (d ++ messages_of (step b).told) k e (step b).link p (out ++ (step b).frames) back
-    at down true clear = absurd (true≢false (sym (clear_up l clear) ∙ down))
+    at : is_link_up l.state ≡ false → (b : Bool) → is_at_rest l ≡ b → Timely g (d ++ messages_of (step b).told) k e (step b).link p (out ++ (step b).frames) back
+    at down true clear = absurd (true≢false (sym (at_rest_up l clear) ∙ down))
     at down false clear = near_same g d k e l p out back t
 
 -- ---- layer 3 asks for a link

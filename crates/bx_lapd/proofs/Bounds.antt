@@ -15,12 +15,12 @@ use Rattle.bx_lapd.specs.declared.words.ErrorCode.{ErrorCode}
 use Rattle.bx_lapd.specs.declared.words.ErrorCode.TheVariants as error
 use Rattle.bx_lapd.specs.declared.frame.Frame.{Frame}
 use Rattle.bx_lapd.specs.declared.frame.Frame.TheVariants.{Information, Numbered, Plain}
-use Rattle.bx_lapd.specs.Links.{t200, t203, Link, LinkStep, does, follows_step, ahead, outstanding, is_valid, numbered_frames, establishing, begun_link, assigned, discarded, acknowledged, is_established, is_recovering, is_link_up, acknowledges, flushes, flush, n200, is_clear}
+use Rattle.bx_lapd.specs.Links.{t200, t203, Link, LinkStep, does, follows_step, ahead, outstanding, is_valid, numbered_frames, establishing, begun_link, assigned, discarded, acknowledged, is_established, is_recovering, is_link_up, acknowledges, flushes, flush, n200, is_at_rest}
 use Rattle.bx_lapd.specs.declared.indication.Indication.{Indication}
 use Rattle.bx_lapd.specs.declared.indication.Indication.TheVariants.{LinkEstablished, LinkReleased, Delivered, LinkError}
 use Rattle.bx_lapd.specs.Table.{establish, release, takes_data, is_due, first_count, enquires, expires, established_anew, hear_sabme, hear_disc, confirmed, hear_ua, hear_dm, fails, hear_plain, answers, took, rejects, hear_message, timed, settled, hear_number, hear_information, is_not_ready, guided, recovered_link, hear_supervised, unasked, hear_numbered, link_heard, faulted}
 use Rattle.bx_lapd.specs.Bounds.{IsShortEnough, IsFrame, IsLink, IsBoundedStep, Within}
-use Rattle.bx_lapd.proofs.Clear.{clear_up}
+use Rattle.bx_lapd.proofs.AtRest.{at_rest_up}
 
 -- ---- lists
 
@@ -474,8 +474,8 @@ elapse_if : (l : Link) (now : ℕ) (b : Bool) → IsLink l → IsBoundedStep (if
 elapse_if l now true h = expires_within l l.state now refl h
 elapse_if l now false h = step_none l [] h
 
-poll_if : (l : Link) (now : ℕ) (b : Bool) → is_clear l ≡ b → IsLink l → IsBoundedStep (if b then enquires l 0 now else does l [] [])
-poll_if l now true e h = enquires_within l 0 now (omega arith) (clear_up l e) h
+poll_if : (l : Link) (now : ℕ) (b : Bool) → is_at_rest l ≡ b → IsLink l → IsBoundedStep (if b then enquires l 0 now else does l [] [])
+poll_if l now true e h = enquires_within l 0 now (omega arith) (at_rest_up l e) h
 poll_if l now false e h = step_none l [] h
 
 pub within : Within
@@ -484,7 +484,7 @@ within l now h = record {
   release = release_within l l.state now h;
   give = λ m x. give_if l m now (takes_data l.state l) refl x h;
   elapse = elapse_if l now (is_due l.timer now) h;
-  poll = poll_if l now (is_clear l) refl h;
+  poll = poll_if l now (is_at_rest l) refl h;
   hear = λ f x. flushed_step (link_heard l f now) now (heard_within l f now x h);
   hear_fault = λ code. step_first (faulted (is_link_up l.state) l code now) (fault_within l (is_link_up l.state) code now h);
 }

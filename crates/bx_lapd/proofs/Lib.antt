@@ -1,6 +1,6 @@
 pub mod Check
 pub mod Numbers
-pub mod Clear
+pub mod AtRest
 pub mod Media
 pub mod Flow
 pub mod Steps

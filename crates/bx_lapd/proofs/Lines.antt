@@ -5,7 +5,7 @@ use Rattle.arrayvec.specs.ArrayVec.{ArrayVec}
 use Rattle.bx_lapd.specs.declared.words.Unnumbered.{Unnumbered}
 use Rattle.bx_lapd.specs.declared.frame.Frame.{Frame}
 use Rattle.bx_lapd.specs.declared.frame.Frame.TheVariants.{Information, Numbered, Plain}
-use Rattle.bx_lapd.specs.Links.{Link, LinkStep, is_link_up, is_clear}
+use Rattle.bx_lapd.specs.Links.{Link, LinkStep, is_link_up, is_at_rest}
 use Rattle.bx_lapd.specs.Table.{establish, release, takes_data, give, is_due, hear, elapse, poll}
 use Rattle.bx_lapd.specs.World.{LinkWorld, EndEvent, Gives, Hears, Loses, Elapses, Asks, Releases, LinkWorldEvent, AtNear, AtFar, messages_of, near_becomes, comes, frames_lost, at_near, swapped, link_world_happens, link_world_after, Polls}
 use Rattle.bx_lapd.specs.Once.{IsPartOf, IsUnlinked, AreUnlinked, Once}
@@ -187,7 +187,7 @@ lines_near w (Gives m now) o =
 lines_near w (Hears now) o = lines_comes w w.far_sent now refl o
 lines_near w Loses o = lines_lost w w.near_sent refl o
 lines_near w (Elapses now) o = lines_step w (elapse w.near now) o (firm_elapse w.near_given w.near o.out.n (is_due w.near.timer now) now o.out.source o.out.tight) (deaf_elapse w.near now)
-lines_near w (Polls now) o = lines_step w (poll w.near now) o (firm_poll w.near_given w.near o.out.n (is_clear w.near) now refl o.out.source o.out.tight) (deaf_poll w.near now)
+lines_near w (Polls now) o = lines_step w (poll w.near now) o (firm_poll w.near_given w.near o.out.n (is_at_rest w.near) now refl o.out.source o.out.tight) (deaf_poll w.near now)
 lines_near w (Asks now) o = lines_step w (establish w.near.state w.near now) o (firm_establish w.near_given w.near o.out.n w.near.state now refl o.out.source o.out.tight) (deaf_establish w.near.state w.near now)
 lines_near w (Releases now) o = lines_step w (release w.near.state w.near now) o (firm_release w.near_given w.near o.out.n w.near.state now o.out.source o.out.tight) (deaf_release w.near.state w.near now)
 

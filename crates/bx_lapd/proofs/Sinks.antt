@@ -12,7 +12,7 @@ use Rattle.bx_lapd.specs.declared.words.ErrorCode.{ErrorCode}
 use Rattle.bx_lapd.specs.declared.frame.Frame.TheVariants.{Information, Numbered, Plain}
 use Rattle.bx_lapd.specs.declared.indication.Indication.{Indication}
 use Rattle.bx_lapd.specs.declared.indication.Indication.TheVariants.{Delivered}
-use Rattle.bx_lapd.specs.Links.{Link, LinkStep, does, follows_step, is_valid, acknowledged, is_established, is_recovering, is_link_up, sendable, acknowledges, flushes, flush, n200, is_clear}
+use Rattle.bx_lapd.specs.Links.{Link, LinkStep, does, follows_step, is_valid, acknowledged, is_established, is_recovering, is_link_up, sendable, acknowledges, flushes, flush, n200, is_at_rest}
 use Rattle.bx_lapd.specs.Table.{establish, release, takes_data, give, is_due, expires, elapse, established_anew, hear_sabme, hear_disc, confirmed, hear_ua, hear_dm, fails, hear_plain, answers, took, rejects, hear_message, timed, settled, hear_number, hear_information, is_not_ready, guided, recovered_link, hear_supervised, unasked, hear_numbered, link_heard, hear, poll, enquires}
 use Rattle.bx_lapd.specs.World.{messages_of}
 use Rattle.bx_lapd.proofs.Steps.{messages_of-append}
@@ -255,4 +255,4 @@ pub deaf_elapse : (l : Link) (now : ℕ) → Deaf l (elapse l now)
 deaf_elapse l now = deaf_if l (is_due l.timer now) (expires l.state l now) (deaf_expires l.state l now)
 
 pub deaf_poll : (l : Link) (now : ℕ) → Deaf l (poll l now)
-deaf_poll l now = deaf_if l (is_clear l) (enquires l 0 now) (record { vr = refl; none = refl })
+deaf_poll l now = deaf_if l (is_at_rest l) (enquires l 0 now) (record { vr = refl; none = refl })

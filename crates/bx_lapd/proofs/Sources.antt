@@ -18,9 +18,9 @@ use Rattle.bx_lapd.specs.declared.frame.Frame.{Frame}
 use Rattle.bx_lapd.specs.declared.frame.Frame.TheVariants.{Information, Numbered, Plain}
 use Rattle.bx_lapd.specs.declared.indication.Indication.{Indication}
 use Rattle.bx_lapd.specs.declared.indication.Indication.TheVariants.{LinkEstablished, LinkReleased, Delivered, LinkError}
-use Rattle.bx_lapd.specs.Links.{t200, t203, Link, LinkStep, does, follows_step, ahead, outstanding, is_valid, numbered_frames, establishing, begun_link, assigned, discarded, acknowledged, is_established, is_recovering, is_link_up, running, acknowledges, flushes, flush, n200, is_clear}
+use Rattle.bx_lapd.specs.Links.{t200, t203, Link, LinkStep, does, follows_step, ahead, outstanding, is_valid, numbered_frames, establishing, begun_link, assigned, discarded, acknowledged, is_established, is_recovering, is_link_up, running, acknowledges, flushes, flush, n200, is_at_rest}
 use Rattle.bx_lapd.specs.Table.{establish, release, first_count, enquires, expires, established_anew, hear_sabme, hear_disc, confirmed, hear_ua, hear_dm, fails, hear_plain, answers, took, rejects, hear_message, timed, settled, hear_number, hear_information, is_not_ready, guided, recovered_link, hear_supervised, unasked, hear_numbered, link_heard, hear}
-use Rattle.bx_lapd.proofs.Clear.{clear_up}
+use Rattle.bx_lapd.proofs.AtRest.{at_rest_up}
 use Rattle.bx_lapd.proofs.Numbers.{ahead-is, further_number}
 use Rattle.bx_lapd.proofs.Media.{Stand, stand_drop}
 use Rattle.bx_lapd.proofs.Lanes.{Lane, Ends, ends_later, lane_append, lane_numbered}
@@ -603,6 +603,6 @@ pub firm_elapse : (g : List (ArrayVec ℕ)) (l : Link) (n : Spot) (b : Bool) (no
 firm_elapse g l n true now x t = firm_expires g l n l.state now refl x t
 firm_elapse g l n false now x t = firm_told g l n [] x t
 
-pub firm_poll : (g : List (ArrayVec ℕ)) (l : Link) (n : Spot) (b : Bool) (now : ℕ) → is_clear l ≡ b → Source g l n → n.s ≡ n.h → Firm g (is_link_up l.state) n.b n.h (if b then enquires l 0 now else does l [] [])
-firm_poll g l n true now e x t = firm_enquires g l n 0 now (clear_up l e) x t
+pub firm_poll : (g : List (ArrayVec ℕ)) (l : Link) (n : Spot) (b : Bool) (now : ℕ) → is_at_rest l ≡ b → Source g l n → n.s ≡ n.h → Firm g (is_link_up l.state) n.b n.h (if b then enquires l 0 now else does l [] [])
+firm_poll g l n true now e x t = firm_enquires g l n 0 now (at_rest_up l e) x t
 firm_poll g l n false now e x t = firm_told g l n [] x t

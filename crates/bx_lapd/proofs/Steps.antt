@@ -10,7 +10,7 @@ use Rattle.bx_lapd.specs.declared.words.Unnumbered.TheVariants.{Sabme}
 use Rattle.bx_lapd.specs.declared.words.ErrorCode.TheVariants.{EnquiryUnanswered}
 use Rattle.bx_lapd.specs.declared.frame.Frame.{Frame}
 use Rattle.bx_lapd.specs.declared.frame.Frame.TheVariants.{Information, Numbered, Plain}
-use Rattle.bx_lapd.specs.Links.{Link, LinkStep, does, follows_step, ahead, outstanding, is_valid, final, enquiry, numbered_frames, establishing, acknowledged, is_established, is_recovering, is_link_up, acknowledges, flushes, flush, n200, is_clear}
+use Rattle.bx_lapd.specs.Links.{Link, LinkStep, does, follows_step, ahead, outstanding, is_valid, final, enquiry, numbered_frames, establishing, acknowledged, is_established, is_recovering, is_link_up, acknowledges, flushes, flush, n200, is_at_rest}
 use Rattle.bx_lapd.specs.declared.indication.Indication.{Indication}
 use Rattle.bx_lapd.specs.declared.indication.Indication.TheVariants.{LinkEstablished, LinkReleased, Delivered, LinkError}
 use Rattle.bx_lapd.specs.Table.{takes_data, give, is_due, first_count, enquires, expires, elapse, answers, took, rejects, hear_message, timed, settled, hear_number, hear_information, is_not_ready, guided, recovered_link, hear_supervised, unasked, hear_numbered, link_heard, hear, poll}
@@ -354,7 +354,7 @@ poll_if g d k e l p forth back n true now t j = kept_enquires g d k e l p forth 
 poll_if g d k e l p forth back n false now t j = (n, mid_same g d k e l p forth back n j, t)
 
 pub kept_poll : (g d k e : List (ArrayVec ℕ)) (l p : Link) (forth back : List Frame) (n : Marks) (now : ℕ) → n.s ≡ n.h → Joint g d k e l p forth back n → KeptTight g d k e p forth back (poll l now)
-kept_poll g d k e l p forth back n now t j = poll_if g d k e l p forth back n (is_clear l) now t j
+kept_poll g d k e l p forth back n now t j = poll_if g d k e l p forth back n (is_at_rest l) now t j
 
 -- ---- a frame that is lost
 

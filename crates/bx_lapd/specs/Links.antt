@@ -152,8 +152,8 @@ is_recovering TimerRecovery = true
 is_recovering _ = false
 
 -- state 7, and nothing that was given is unacknowledged
-abbrev pub is_clear : Link → Bool
-is_clear l = is_established l.state && (length l.queue == 0)
+abbrev pub is_at_rest : Link → Bool
+is_at_rest l = is_established l.state && (length l.queue == 0)
 
 -- states 7 and 8
 abbrev pub is_link_up : LinkState → Bool

@@ -13,7 +13,7 @@ use Rattle.bx_lapd.specs.declared.words.ErrorCode.{ErrorCode}
 use Rattle.bx_lapd.specs.declared.words.ErrorCode.TheVariants as error
 use Rattle.bx_lapd.specs.declared.frame.Frame.{Frame}
 use Rattle.bx_lapd.specs.declared.frame.Frame.TheVariants.{Information, Numbered, Plain}
-use Rattle.bx_lapd.specs.Links.{t200, t203, n200, Link, LinkStep, does, follows_step, is_valid, final, enquiry, establishing, establishes, begun_link, assigned, discarded, acknowledged, wrong_number, is_established, is_recovering, is_clear, is_link_up, flush}
+use Rattle.bx_lapd.specs.Links.{t200, t203, n200, Link, LinkStep, does, follows_step, is_valid, final, enquiry, establishing, establishes, begun_link, assigned, discarded, acknowledged, wrong_number, is_established, is_recovering, is_at_rest, is_link_up, flush}
 use Rattle.bx_lapd.specs.declared.indication.Indication.{Indication}
 use Rattle.bx_lapd.specs.declared.indication.Indication.TheVariants.{LinkEstablished, LinkReleased, Delivered, LinkError}
 
@@ -81,7 +81,7 @@ elapse l now = if is_due l.timer now then expires l.state l now else does l [] [
 -- The other end is asked whether it is there, where nothing is unacknowledged: the row of T203 in state 7 (5.10), at an instant of layer
 -- 3's choice. The link is in state 7 again when it has answered
 abbrev pub poll : Link → ℕ → LinkStep
-poll l now = if is_clear l then enquires l 0 now else does l [] []
+poll l now = if is_at_rest l then enquires l 0 now else does l [] []
 
 -- ---- unnumbered frames
 

@@ -2,7 +2,7 @@
 
 ghost use Rattle.std.specs.Prelude.{◌≡◌, ◌<◌, ◌≤◌, ◌^◌, ◌+◌, length, [], true};
 ghost use Rattle.bx_lapd.specs.Rows.{IsRow};
-ghost use Rattle.bx_lapd.specs.Links.{t200, n200, is_clear, Makes};
+ghost use Rattle.bx_lapd.specs.Links.{t200, n200, is_at_rest, Makes};
 ghost use Rattle.bx_lapd.specs.Table.{establish, release, takes_data, give, is_due, due_of, enquires, expires, elapse, poll, link_heard, hear, hear_fault};
 
 use crate::data_link::{DataLink, T200};
@@ -91,8 +91,8 @@ impl DataLink {
     }
 
     /// Whether the link is up in state 7, and nothing that was given is unacknowledged.
-    pub fn is_clear(&self) -> bool
-        ensures { result ≡ is_clear self.now }
+    pub fn is_at_rest(&self) -> bool
+        ensures { result ≡ is_at_rest self.now }
     {
         self.is_established() && self.queue.is_empty()
     }
@@ -124,13 +124,13 @@ impl DataLink {
     }
 
     /// Asks the other end whether it is there, by RR with P = 1, where nothing that was given is unacknowledged: what T203 does when it is due
-    /// (ITU-T Q.921, 5.10), at an instant of the caller's choice. Until the other end has answered the link is not clear (`is_clear`).
+    /// (ITU-T Q.921, 5.10), at an instant of the caller's choice. Until the other end has answered the link is not at rest (`is_at_rest`).
     pub fn poll(&mut self, now: u64) -> Done
         requires { now < 2 ^ 62 }
         ensures { Makes (poll self.old now) self.new result }
     {
         let mut out = Done::new();
-        if self.is_clear() {
+        if self.is_at_rest() {
             let row = self.enquire(0, now);
             out.add(row);
         }

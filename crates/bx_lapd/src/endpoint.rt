@@ -2,7 +2,7 @@
 
 ghost use Rattle.std.specs.Prelude.{◌≡◌, ◌+◌, ◌<◌, ◌≤◌, ◌^◌, [], min, length};
 ghost use Rattle.bx_q931.specs.declared.reading.TheConstants.{MAX_MESSAGE};
-ghost use Rattle.bx_lapd.specs.Links.{Makes, is_clear, is_link_up};
+ghost use Rattle.bx_lapd.specs.Links.{Makes, is_at_rest, is_link_up};
 ghost use Rattle.bx_lapd.specs.Table.{establish, release, takes_data, give, elapse, poll, due_of};
 ghost use Rattle.bx_lapd.specs.Codec.{read_octets};
 ghost use Rattle.bx_lapd.specs.Endpoints.{hear_octets, is_dropped};
@@ -112,13 +112,13 @@ impl Endpoint {
     }
 
     /// Whether the link is up in state 7, and nothing that was given is unacknowledged.
-    pub fn is_clear(&self) -> bool
-        ensures { result ≡ is_clear self.now.link }
+    pub fn is_at_rest(&self) -> bool
+        ensures { result ≡ is_at_rest self.now.link }
     {
-        self.link.is_clear()
+        self.link.is_at_rest()
     }
 
-    /// Asks the other end whether it is there, by RR with P = 1, where the link is clear (ITU-T Q.921, 5.10). It is clear again when the
+    /// Asks the other end whether it is there, by RR with P = 1, where the link is at rest (ITU-T Q.921, 5.10). It is so again when the
     /// other end has answered.
     pub fn poll(&mut self, now: u64) -> Done
         requires { now < 2 ^ 62 }

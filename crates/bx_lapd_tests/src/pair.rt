@@ -97,7 +97,7 @@ impl Pair {
             )
             && self.end.is_up() == second.is_up()
             && self.end.takes() == second.takes()
-            && self.end.is_clear() == second.is_clear()
+            && self.end.is_at_rest() == second.is_at_rest()
             && self.end.due() == second.due()
             && self.end.dropped() == second.dropped
     }

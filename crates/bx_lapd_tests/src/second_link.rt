@@ -242,13 +242,13 @@ impl Second {
     }
 
     /// Whether nothing that was given is unacknowledged, in state 7.
-    pub(crate) fn is_clear(&self) -> bool {
+    pub(crate) fn is_at_rest(&self) -> bool {
         self.state == 7 && self.kept.is_empty()
     }
 
     pub(crate) fn poll(&mut self, now: u64) {
         self.turns();
-        if self.is_clear() {
+        if self.is_at_rest() {
             self.enquire(0, now);
         }
     }

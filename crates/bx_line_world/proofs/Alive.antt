@@ -10,7 +10,7 @@ use Rattle.bx_lapd.specs.declared.words.ErrorCode.TheVariants as error
 use Rattle.bx_lapd.specs.declared.words.Timer.TheVariants.{T200}
 use Rattle.bx_lapd.specs.declared.words.Unnumbered.TheVariants as u
 use Rattle.bx_lapd.specs.declared.frame.Frame.TheVariants.{Plain}
-use Rattle.bx_lapd.specs.Links.{t200, n200, Link, does, establishing, assigned, discarded, is_established, is_clear}
+use Rattle.bx_lapd.specs.Links.{t200, n200, Link, does, establishing, assigned, discarded, is_established, is_at_rest}
 use Rattle.bx_lapd.specs.Table.{is_due, first_count, enquires, expires, elapse, poll}
 use Rattle.bx_live.specs.declared.world.Begin.TheVariants.{Joined}
 use Rattle.bx_live.specs.Acts.{Act, Began}
@@ -79,35 +79,35 @@ enquired_at (e ∷ es) shown = enquired_at es shown
 
 -- ---- the link is not clear again before a frame has come
 
-unclear : (l : Link) → is_established l.state ≡ false → is_clear l ≡ false
+unclear : (l : Link) → is_established l.state ≡ false → is_at_rest l ≡ false
 unclear l e = ap (λ b. b && (length l.queue == 0)) e
 
-poll_unclear : (l : Link) (now : ℕ) → is_clear l ≡ true → is_clear (poll l now).link ≡ false
-poll_unclear l now clear = subst (λ (b : Bool). is_clear (if b then enquires l 0 now else does l [] []).link ≡ false) (sym clear) refl
+poll_unclear : (l : Link) (now : ℕ) → is_at_rest l ≡ true → is_at_rest (poll l now).link ≡ false
+poll_unclear l now clear = subst (λ (b : Bool). is_at_rest (if b then enquires l 0 now else does l [] []).link ≡ false) (sym clear) refl
 
-expires_unclear : (st : LinkState) (l : Link) (now : ℕ) → l.state ≡ st → is_clear l ≡ false → is_clear (expires st l now).link ≡ false
+expires_unclear : (st : LinkState) (l : Link) (now : ℕ) → l.state ≡ st → is_at_rest l ≡ false → is_at_rest (expires st l now).link ≡ false
 expires_unclear Assigned l now is e = e
 expires_unclear AwaitingEstablishment l now is e = at (nat_lt l.rc n200)
   where
-    at : (b : Bool) → is_clear (if b then does (record l { rc = l.rc + 1; timer = T200 (now + t200) }) (Plain u.Sabme true ∷ []) [] else does (discarded (assigned l)) [] (LinkError error.SabmeUnanswered ∷ LinkReleased ∷ [])).link ≡ false
+    at : (b : Bool) → is_at_rest (if b then does (record l { rc = l.rc + 1; timer = T200 (now + t200) }) (Plain u.Sabme true ∷ []) [] else does (discarded (assigned l)) [] (LinkError error.SabmeUnanswered ∷ LinkReleased ∷ [])).link ≡ false
     at true = unclear l (ap is_established is)
     at false = refl
 expires_unclear AwaitingRelease l now is e = at (nat_lt l.rc n200)
   where
-    at : (b : Bool) → is_clear (if b then does (record l { rc = l.rc + 1; timer = T200 (now + t200) }) (Plain u.Disc true ∷ []) [] else does (assigned l) [] (LinkError error.DiscUnanswered ∷ LinkReleased ∷ [])).link ≡ false
+    at : (b : Bool) → is_at_rest (if b then does (record l { rc = l.rc + 1; timer = T200 (now + t200) }) (Plain u.Disc true ∷ []) [] else does (assigned l) [] (LinkError error.DiscUnanswered ∷ LinkReleased ∷ [])).link ≡ false
     at true = unclear l (ap is_established is)
     at false = refl
 expires_unclear Established l now is e = refl
 expires_unclear TimerRecovery l now is e = at (nat_lt l.rc n200)
   where
-    at : (b : Bool) → is_clear (if b then enquires l (l.rc + 1) now else does (establishing l false now) (Plain u.Sabme true ∷ []) (LinkError error.EnquiryUnanswered ∷ [])).link ≡ false
+    at : (b : Bool) → is_at_rest (if b then enquires l (l.rc + 1) now else does (establishing l false now) (Plain u.Sabme true ∷ []) (LinkError error.EnquiryUnanswered ∷ [])).link ≡ false
     at true = refl
     at false = refl
 
-elapse_unclear : (l : Link) (now : ℕ) → is_clear l ≡ false → is_clear (elapse l now).link ≡ false
+elapse_unclear : (l : Link) (now : ℕ) → is_at_rest l ≡ false → is_at_rest (elapse l now).link ≡ false
 elapse_unclear l now e = at (is_due l.timer now)
   where
-    at : (b : Bool) → is_clear (if b then expires l.state l now else does l [] []).link ≡ false
+    at : (b : Bool) → is_at_rest (if b then expires l.state l now else does l [] []).link ≡ false
     at true = expires_unclear l.state l now refl e
     at false = e
 
@@ -133,7 +133,7 @@ all_told_asked p (one ∷ more) h = told_asked p one (all_told_asked (told_to p 
 module _ {W : Type 0} (did : W → List WireAct → W → Type 0) (nothing : (w : W) → did w [] w) (more : (u v w : W) (xs ys : List WireAct) → did u xs v → did v ys w → did u (xs ++ ys) w) where
   -- who was asked has answered, or the link waits for that
   abbrev Waits : Line W → List LineEvent → Type 0
-  Waits s es = s.post.asked ≡ true → (is_answered es ≡ true) ⊎ ((has_enquired es ≡ true) × (is_clear s.end.link ≡ false))
+  Waits s es = s.post.asked ≡ true → (is_answered es ≡ true) ⊎ ((has_enquired es ≡ true) × (is_at_rest s.end.link ≡ false))
 
   record Seeing (s t : Line W) : Type 0 where
     went : Went did s t [] []
@@ -142,9 +142,9 @@ module _ {W : Type 0} (did : W → List WireAct → W → Type 0) (nothing : (w 
   by_time : (s t : Line W) (es : List LineEvent) (shown : ℕ) → Serves did s (Elapsed shown) t → Waits s es → Waits t (es ++ Elapsed shown ∷ [])
   by_time s t es shown sv w asked = at (w (all_told_asked s.post (step_of s (Elapsed shown)).told (subst (λ (p : Post). p.asked ≡ true) sv.post asked)))
     where
-      at : (is_answered es ≡ true) ⊎ ((has_enquired es ≡ true) × (is_clear s.end.link ≡ false)) → (is_answered (es ++ Elapsed shown ∷ []) ≡ true) ⊎ ((has_enquired (es ++ Elapsed shown ∷ []) ≡ true) × (is_clear t.end.link ≡ false))
+      at : (is_answered es ≡ true) ⊎ ((has_enquired es ≡ true) × (is_at_rest s.end.link ≡ false)) → (is_answered (es ++ Elapsed shown ∷ []) ≡ true) ⊎ ((has_enquired (es ++ Elapsed shown ∷ []) ≡ true) × (is_at_rest t.end.link ≡ false))
       at (inl a) = inl (answered_more es (Elapsed shown ∷ []) a)
-      at (inr (q, c)) = inr (enquired_more es (Elapsed shown ∷ []) q, subst (λ (l : Link). is_clear l ≡ false) (sym sv.link) (elapse_unclear s.end.link (time_at s shown) c))
+      at (inr (q, c)) = inr (enquired_more es (Elapsed shown ∷ []) q, subst (λ (l : Link). is_at_rest l ≡ false) (sym sv.link) (elapse_unclear s.end.link (time_at s shown) c))
 
   one_more : (s0 s t : Line W) (x : Went did s0 s [] []) (e : LineEvent) (sv : Serves did s e t) → (went_on more x (went_one e sv)).events ≡ x.events ++ e ∷ []
   one_more s0 s t x e sv = on_events more x (went_one e sv) ∙ ap (λ es. x.events ++ es) (one_events e sv)
@@ -156,9 +156,9 @@ module _ {W : Type 0} (did : W → List WireAct → W → Type 0) (nothing : (w 
   still : (s t : Line W) (es fs : List LineEvent) → t.end.link ≡ s.end.link → t.post ≡ s.post → Waits s es → Waits t (es ++ fs)
   still s t es fs link post w asked = at (w (subst (λ (p : Post). p.asked ≡ true) post asked))
     where
-      at : (is_answered es ≡ true) ⊎ ((has_enquired es ≡ true) × (is_clear s.end.link ≡ false)) → (is_answered (es ++ fs) ≡ true) ⊎ ((has_enquired (es ++ fs) ≡ true) × (is_clear t.end.link ≡ false))
+      at : (is_answered es ≡ true) ⊎ ((has_enquired es ≡ true) × (is_at_rest s.end.link ≡ false)) → (is_answered (es ++ fs) ≡ true) ⊎ ((has_enquired (es ++ fs) ≡ true) × (is_at_rest t.end.link ≡ false))
       at (inl a) = inl (answered_more es fs a)
-      at (inr (q, c)) = inr (enquired_more es fs q, subst (λ (l : Link). is_clear l ≡ false) (sym link) c)
+      at (inr (q, c)) = inr (enquired_more es fs q, subst (λ (l : Link). is_at_rest l ≡ false) (sym link) c)
 
   by_frame : (s t : Line W) (es : List LineEvent) (until : ℕ) (octets : List ℕ) (shown : ℕ) → Serves did s (Heard until octets shown) t → Waits s es → Waits t (es ++ Heard until octets shown ∷ [])
   by_frame s t es until octets shown sv w asked = at (w (all_told_asked s.post (step_of s (Heard until octets shown)).told (subst (λ (p : Post). p.asked ≡ true) sv.post asked)))
@@ -166,7 +166,7 @@ module _ {W : Type 0} (did : W → List WireAct → W → Type 0) (nothing : (w 
       heard : List LineEvent
       heard = Heard until octets shown ∷ []
 
-      at : (is_answered es ≡ true) ⊎ ((has_enquired es ≡ true) × (is_clear s.end.link ≡ false)) → (is_answered (es ++ heard) ≡ true) ⊎ ((has_enquired (es ++ heard) ≡ true) × (is_clear t.end.link ≡ false))
+      at : (is_answered es ≡ true) ⊎ ((has_enquired es ≡ true) × (is_at_rest s.end.link ≡ false)) → (is_answered (es ++ heard) ≡ true) ⊎ ((has_enquired (es ++ heard) ≡ true) × (is_at_rest t.end.link ≡ false))
       at (inl a) = inl (answered_more es heard a)
       at (inr (q, c)) = inl (answered_by es heard q refl)
 
@@ -180,7 +180,7 @@ module _ {W : Type 0} (did : W → List WireAct → W → Type 0) (nothing : (w 
   asks s0 s t true is (shown, between, sv, same) x =
       subst (λ (y : Line W). Seeing s0 y) (sym same) (record {
         went = with_post (record between.post { asked = true }) refl (went_on more x.went (went_one (Enquired shown) sv));
-        waits = λ asked. inr (subst (λ es. has_enquired es ≡ true) (sym (post_events (record between.post { asked = true }) refl (went_on more x.went (went_one (Enquired shown) sv)) ∙ one_more s0 s between x.went (Enquired shown) sv)) (enquired_at x.went.events shown), subst (λ (l : Link). is_clear l ≡ false) (sym sv.link) (poll_unclear s.end.link (time_at s shown) (and_parts (not s.post.asked) (is_clear s.end.link) is).1));
+        waits = λ asked. inr (subst (λ es. has_enquired es ≡ true) (sym (post_events (record between.post { asked = true }) refl (went_on more x.went (went_one (Enquired shown) sv)) ∙ one_more s0 s between x.went (Enquired shown) sv)) (enquired_at x.went.events shown), subst (λ (l : Link). is_at_rest l ≡ false) (sym sv.link) (poll_unclear s.end.link (time_at s shown) (and_parts (not s.post.asked) (is_at_rest s.end.link) is).1));
       })
   asks s0 s t false is same x = subst (λ (y : Line W). Seeing s0 y) (sym same) x
 
@@ -197,20 +197,20 @@ module _ {W : Type 0} (did : W → List WireAct → W → Type 0) (nothing : (w 
   here_parts true lost h = refl
   here_parts false lost h = absurd (false≢true h)
 
-  answered : (t : Line W) (es : List LineEvent) → is_seen t ≡ true → Waits t es → (is_answered es ≡ true) × (is_clear t.end.link ≡ true)
+  answered : (t : Line W) (es : List LineEvent) → is_seen t ≡ true → Waits t es → (is_answered es ≡ true) × (is_at_rest t.end.link ≡ true)
   answered t es seen w = (at (w parts.0), parts.1)
     where
-      parts : (t.post.asked ≡ true) × (is_clear t.end.link ≡ true)
-      parts = and_parts t.post.asked (is_clear t.end.link) seen
+      parts : (t.post.asked ≡ true) × (is_at_rest t.end.link ≡ true)
+      parts = and_parts t.post.asked (is_at_rest t.end.link) seen
 
-      at : (is_answered es ≡ true) ⊎ ((has_enquired es ≡ true) × (is_clear t.end.link ≡ false)) → is_answered es ≡ true
+      at : (is_answered es ≡ true) ⊎ ((has_enquired es ≡ true) × (is_at_rest t.end.link ≡ false)) → is_answered es ≡ true
       at (inl a) = a
       at (inr (q, c)) = absurd (true≢false (sym parts.1 ∙ c))
 
   pub begun_seen : (instant : ℕ) (s t : Line W) → is_on_the_second instant ≡ true → Begins did instant Joined s t → SeesEnd did s t
   begun_seen instant s t on b =
       let before = went_on more (went_asked more (is_idle s.end.link) s b.asked nothing b.asks) (went_served more instant false b.asked b.waited nothing b.served) in
-      let fresh : Seeing s (asked_anew true b.waited) = record { went = with_post (unasked b.waited.post) refl before; waits = λ asked. absurd (false≢true asked) } in
+      let fresh : Seeing s (asked_anew true b.waited) = record { went = with_post (not_asked b.waited.post) refl before; waits = λ asked. absurd (false≢true asked) } in
       let start = subst (λ (x : Bool). Seeing s (asked_anew x b.waited)) (sym on) fresh in
       let seen = sees _ s (asked_anew (is_on_the_second instant) b.waited) b.seen b.begun.1 start in
       let ends = answered b.seen seen.went.events (here_parts (is_seen b.seen) (is_lost b.seen.post.lost) b.begun.2) seen.waits in

@@ -267,7 +267,7 @@ module _ {W : Type 0} {did : W → List WireAct → W → Type 0} where
         went_on (went_on (went_one (Elapsed one.shown) one.timed) (went_on (went_ends_asked (is_to_ask one.between) one.between one.asked nothing one.asks) (went_waited until came one.is_wait one.waited))) (went_looked until mid t more_came nothing rest)
 
     went_anew : (b : Bool) (s : Line W) → ((w : W) → did w [] w) → Went did s (asked_anew b s) [] []
-    went_anew true s nothing = with_post (unasked s.post) refl (went_none nothing s)
+    went_anew true s nothing = with_post (not_asked s.post) refl (went_none nothing s)
     went_anew false s nothing = went_none nothing s
 
     went_out : (instant : ℕ) (s t : Line W) → ((w : W) → did w [] w) → LooksOut did instant s t → Went did s t [] []

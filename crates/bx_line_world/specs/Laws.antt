@@ -9,7 +9,7 @@ use Rattle.bx_live.specs.Acts.{Act, Began, logged_by, ended, begins_none}
 use Rattle.bx_live.specs.Held.{AreHeld}
 use Rattle.bx_live.specs.Runs.{Between, Done}
 use Rattle.bx_live.specs.Running.{Runs, or_over}
-use Rattle.bx_lapd.specs.Links.{is_clear}
+use Rattle.bx_lapd.specs.Links.{is_at_rest}
 use Rattle.bx_live.specs.Chains.{Chain}
 use Rattle.bx_live.specs.Schedules.{instant_of_second}
 use Rattle.bx_live.specs.Logs.{OnDisk}
@@ -56,7 +56,7 @@ pub record SeesEnd {W : Type 0} (did : W → List WireAct → W → Type 0) (old
   pub wire : did old.wire (wire_acts (end_of old) events) new.wire
   pub link : end_of new ≡ after_events (end_of old) events
   pub answered : is_answered events ≡ true
-  pub clear : is_clear new.end.link ≡ true
+  pub clear : is_at_rest new.end.link ≡ true
 
 -- where a second of the day begins with a link, and one of the clock with it, the other end has shown that it is there
 abbrev pub IsSeenAlive : {W D : Type 0} → (did : W → List WireAct → W → Type 0) (holds may_leave : D → List ℕ → Type 0) (moment : D → ℕ) (left_since : D → ℕ → List ℕ → Type 0) (has_failed : D → Bool) → Type 0

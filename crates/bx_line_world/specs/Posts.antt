@@ -32,8 +32,8 @@ reset true p = record p { lost = Some LinkReset }
 reset false p = p
 
 -- the other end has still to be asked, in this second of the clock, whether it is there
-abbrev pub unasked : Post → Post
-unasked p = record p { asked = false }
+abbrev pub not_asked : Post → Post
+not_asked p = record p { asked = false }
 
 -- the other end has established the link anew: it may know nothing of what was said over it before (ITU-T Q.921, 5.7)
 abbrev pub is_anew : ErrorCode → Bool

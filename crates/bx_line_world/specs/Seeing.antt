@@ -1,22 +1,22 @@
 -- Whether the other end is there: in each second of the clock it is asked, over a link of which nothing is unacknowledged, and it is seen
 -- when it has answered.
 use Rattle.std.specs.Prelude.{◌≡◌, ◌⊎◌, ℕ, ◌+◌, ◌%◌, ◌==◌, nat_le, min, max, ◌&&◌, ◌||◌, not, Bool, true, false, List, length}
-use Rattle.bx_lapd.specs.Links.{is_clear}
+use Rattle.bx_lapd.specs.Links.{is_at_rest}
 use Rattle.bx_live.specs.Chains.{Chain}
 use Rattle.bx_live.specs.declared.schedule.TheConstants.{SECOND}
 use Rattle.bx_line_world.specs.Wires.{WireAct}
-use Rattle.bx_line_world.specs.Posts.{is_lost, unasked}
+use Rattle.bx_line_world.specs.Posts.{is_lost, not_asked}
 use Rattle.bx_line_world.specs.Lines.{LineEvent, Elapsed, Enquired, Serves}
 use Rattle.bx_line_world.specs.Serving.{IsWait}
 use Rattle.bx_line_world.specs.declared.line.Line.{Line}
 
 -- it was asked, and has answered, and all that it was given is acknowledged
 abbrev pub is_seen : {W : Type 0} → Line W → Bool
-is_seen s = s.post.asked && is_clear s.end.link
+is_seen s = s.post.asked && is_at_rest s.end.link
 
 -- it was not asked yet, and nothing stands in the way
 abbrev pub is_to_ask : {W : Type 0} → Line W → Bool
-is_to_ask s = not s.post.asked && is_clear s.end.link
+is_to_ask s = not s.post.asked && is_at_rest s.end.link
 
 -- whether a second of the clock begins at this instant, in nanoseconds
 abbrev pub is_on_the_second : ℕ → Bool
@@ -24,7 +24,7 @@ is_on_the_second instant = instant % SECOND == 0
 
 -- who was asked in the second before has to be asked anew
 abbrev pub asked_anew : {W : Type 0} → Bool → Line W → Line W
-asked_anew true s = record s { post = unasked s.post }
+asked_anew true s = record s { post = not_asked s.post }
 asked_anew false s = s
 
 -- Up to which reading of the clock it is waited for an answer: half a second after the instant of the second, and 50 milliseconds in any

@@ -92,14 +92,14 @@ impl<W> Line<W> {
     pub(crate) fn is_seen(&self) -> bool
         ensures { result ≡ is_seen self.now }
     {
-        self.post.asked && self.end.is_clear()
+        self.post.asked && self.end.is_at_rest()
     }
 
     /// Whether it was not asked yet, and nothing stands in the way.
     fn is_to_ask(&self) -> bool
         ensures { result ≡ is_to_ask self.now }
     {
-        !self.post.asked && self.end.is_clear()
+        !self.post.asked && self.end.is_at_rest()
     }
 
     /// Whether there is no link, and no attempt runs.

@@ -2,7 +2,7 @@
 
 ghost use Rattle.std.specs.Prelude.{◌≡◌};
 ghost use Rattle.bx_lapd.specs.declared.indication.Indication.TheVariants.{Delivered};
-ghost use Rattle.bx_line_world.specs.Posts.{no_post, post_from, is_full, told_to, reset, unasked, begun_by, dropped_by};
+ghost use Rattle.bx_line_world.specs.Posts.{no_post, post_from, is_full, told_to, reset, not_asked, begun_by, dropped_by};
 ghost use Rattle.bx_line_world.specs.Serving.{has_news};
 ghost use Rattle.bx_line_world.specs.Steps.{TakesFirst};
 
@@ -51,7 +51,7 @@ impl Post {
 
     /// What was under way may be lost, and the other end has to be asked again. What was delivered before was acknowledged, and stays.
     fn reset(&mut self)
-        ensures { self.new ≡ unasked (reset self.old.here self.old) }
+        ensures { self.new ≡ not_asked (reset self.old.here self.old) }
     {
         self.asked = false;
         if self.here {
