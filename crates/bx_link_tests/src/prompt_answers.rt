@@ -145,12 +145,7 @@ fn lived(alloc: Global, script: &str, last: u32) -> Option<Vec<u8>> {
 }
 
 /// Whether a far end on a live line writes this in its first second, and that in the two after it.
-fn lives_so(
-    alloc: Global,
-    script: &str,
-    first: &[&[u8]],
-    following: &[&[u8]],
-) -> Option<bool> {
+fn lives_so(alloc: Global, script: &str, first: &[&[u8]], following: &[&[u8]]) -> Option<bool> {
     let opened = lived(alloc, script, 1)?;
     let written = lived(alloc, script, 3)?;
     let is_opened = behind(&opened, first)?.is_empty();
@@ -181,7 +176,10 @@ fn calls_on_a_live_line(rt: HostRuntime) {
 #[test]
 fn calls_in_a_rehearsal(rt: HostRuntime) {
     for (name, script, _, _, turns) in &ANSWERS {
-        assert!(rt; rehearses_so(rt.alloc(), script, turns) == Some(true), "{name}");
+        assert!(rt;
+            rehearses_so(rt.alloc(), script, turns) == Some(true),
+            "{name}"
+        );
     }
 }
 
