@@ -264,7 +264,6 @@ fn neighbours(alloc: Global, hears: Hears) -> Option<[Outcome; 3]> {
 #[test]
 fn bookings_right_behind_another(rt: HostRuntime) {
     for (name, hears, outcomes) in &NEIGHBOURS {
-        let ran = neighbours(rt.alloc(), *hears);
-        assert!(rt; ran == Some(*outcomes), "{name}: {ran:?}");
+        assert!(rt; neighbours(rt.alloc(), *hears) == Some(*outcomes), "{name}");
     }
 }
