@@ -6,9 +6,10 @@ pub data Event : Type 0 where
   Tick : Event
   Receive : (octets : List ℕ) → Event
 
--- what a live exchange goes through: an event on its link, a second without one, or a booking that is sold, as a line tells it, by
--- which the day of its last plan does not change
+-- what a live exchange goes through: an event on its link, a second without one, a booking that is sold, as a line tells it, by
+-- which the day of its last plan does not change, or octets that came to an exchange of the rules 2
 pub data LiveEvent : Type 0 where
   OnLink : (event : Event) → LiveEvent
   WithoutLink : LiveEvent
   Sold : (booking : List ℕ) → LiveEvent
+  HeardByRulesTwo : (octets : List ℕ) → LiveEvent

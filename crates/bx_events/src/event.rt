@@ -7,10 +7,12 @@ pub enum Event<'a> {
     Receive(&'a [u8]),
 }
 
-/// An event of a live day: one on its link, a second without a link, or a booking that is sold, as a line tells it.
+/// An event of a live day: one on its link, a second without a link, a booking that is sold, as a line tells it, or octets that came
+/// to an exchange of the rules 2, as a journal of such a one has them.
 #[derive(Clone, Copy)]
 pub enum LiveEvent<'a> {
     OnLink(Event<'a>),
     WithoutLink,
     Sold(&'a [u8]),
+    HeardByRulesTwo(&'a [u8]),
 }
