@@ -1,3 +1,4 @@
+mod ByRules
 mod EveryState
 mod Unlinked
 pub mod Shifted

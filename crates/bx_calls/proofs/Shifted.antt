@@ -16,7 +16,7 @@ use Rattle.bx_calls.specs.declared.net_state.NetState.TheVariants.{OutgoingCallP
 use Rattle.bx_calls.specs.PlainCalls.{PlainNetCall}
 use Rattle.bx_calls.specs.Hearing.{Heard, names_channel, reports_null}
 use Rattle.bx_calls.specs.Saying.{network, with_kept_cause}
-use Rattle.bx_calls.specs.NetTable.{net_says, net_says_cause, net_status, net_same, net_to, net_releases, net_disconnects, net_setup_again, net_offers, net_asks, net_on_channel, net_acknowledged, net_row, net_is_contradicted, net_is_unacknowledged, net_is_put_off, net_put_off, net_awake_state, net_message, net_is_clearing, net_offer_due, net_release_due, net_timer, net_second, net_lost, net_later, net_unlinked}
+use Rattle.bx_calls.specs.NetTable.{net_says, net_says_cause, net_status, net_same, net_to, net_releases, net_disconnects, net_setup_again, net_offers, net_asks, net_on_channel, net_acknowledged, net_row, net_is_contradicted, net_is_unacknowledged, net_is_put_off, net_put_off, net_awake_state, net_message, net_is_clearing, net_offer_due, net_release_due, net_timer, net_second, net_lost, net_later, net_unlinked, net_connects, net_is_unconnected, net_is_ringing, net_rung, is_alerted}
 use Rattle.bx_calls.specs.Shifting.{state_earlier, earlier_by, state_later, told_later, step_later, IsDueFrom}
 
 -- ---- moments
@@ -252,12 +252,7 @@ unacknowledged_later n (ReleaseRequest sent cause due) o m k = refl
 
 refused_later : (n : ℕ) (offer : Offer) (due : ℕ) (m : Heard) (k : Kind) → net_is_put_off (CallPresent offer (due + n)) m k ≡ net_is_put_off (CallPresent offer due) m k
 refused_later n offer due m ReleaseComplete = refl
-refused_later n Asked due m Status = refl
-refused_later n First due m Status = refl
-refused_later n Second due m Status = refl
-refused_later n Anew due m Status = refl
-refused_later n PutOff due m Status = refl
-refused_later n Unlinked due m Status = refl
+refused_later n offer due m Status = refl
 refused_later n offer due m k = refl
 
 put_off_later : (n : ℕ) (s : NetState) (m : Heard) (k : Kind) → net_is_put_off (state_later n s) m k ≡ net_is_put_off s m k
@@ -288,24 +283,52 @@ puts_off n t (Enquiring asked due) = ap (λ x. CallPresent PutOff x) (swap t n 1
 puts_off n t (DisconnectIndication cause due) = ap (λ x. CallPresent PutOff x) (swap t n 1)
 puts_off n t (ReleaseRequest sent cause due) = ap (λ x. CallPresent PutOff x) (swap t n 1)
 
+unconnected_later : (n : ℕ) (s : NetState) (o : NetOrigin) (m : Heard) (k : Kind) → net_is_unconnected (state_later n s) o m k ≡ net_is_unconnected s o m k
+unconnected_later n (Enquiring asked due) o m k = refl
+unconnected_later n OutgoingCallProceeding o m k = refl
+unconnected_later n (CallPresent offer due) o m k = refl
+unconnected_later n (IncomingCallProceeding due) o m k = refl
+unconnected_later n (CallReceived due) o m k = refl
+unconnected_later n Active o m k = refl
+unconnected_later n (DisconnectIndication cause due) o m k = refl
+unconnected_later n (ReleaseRequest sent cause due) o m k = refl
+
+offer_rings : (n : ℕ) (offer : Offer) (due : ℕ) (m : Heard) (k : Kind) → net_is_ringing (CallPresent offer (due + n)) m k ≡ net_is_ringing (CallPresent offer due) m k
+offer_rings n Asked due m Status = refl
+offer_rings n Asked due m k = refl
+offer_rings n First due m k = refl
+offer_rings n Second due m k = refl
+offer_rings n Anew due m k = refl
+offer_rings n PutOff due m k = refl
+offer_rings n Unlinked due m k = refl
+
+ringing_later : (n : ℕ) (s : NetState) (m : Heard) (k : Kind) → net_is_ringing (state_later n s) m k ≡ net_is_ringing s m k
+ringing_later n (Enquiring asked due) m k = refl
+ringing_later n OutgoingCallProceeding m k = refl
+ringing_later n (CallPresent offer due) m k = offer_rings n offer due m k
+ringing_later n (IncomingCallProceeding due) m k = refl
+ringing_later n (CallReceived due) m k = refl
+ringing_later n Active m k = refl
+ringing_later n (DisconnectIndication cause due) m k = refl
+ringing_later n (ReleaseRequest sent cause due) m k = refl
+
+rung_later : (n t : ℕ) (reported : Option ℕ) → net_rung (t + n) reported ≡ state_later n (net_rung t reported)
+rung_later n t reported = bool_case (is_alerted reported) (λ b. (if b then CallReceived (t + n + 180) else IncomingCallProceeding (t + n + 10)) ≡ state_later n (if b then CallReceived (t + 180) else IncomingCallProceeding (t + 10))) (ap (λ x. CallReceived x) (swap t n 180)) (ap (λ x. IncomingCallProceeding x) (swap t n 10))
+
 woken : (n t : ℕ) (c : PlainNetCall) (m : Heard) (s : NetState) (k : Kind) → net_row (at c (net_awake_state (state_later n s))) m (t + n) (net_awake_state (state_later n s)) k ≡ step_later n (net_row (at c (net_awake_state s)) m t (net_awake_state s) k)
 woken n t c m s k = ap (λ x. net_row (at c x) m (t + n) x k) (awake_later n s) ∙ row_later n t c m (net_awake_state s) k
 
-four : (n : ℕ) (a b d a' b' d' : Bool) (x y z w x' y' z' w' : Transition PlainNetCall) → a ≡ a' → b ≡ b' → d ≡ d' → x ≡ step_later n x' → y ≡ step_later n y' → z ≡ step_later n z' → w ≡ step_later n w' → (if a then x else if b then y else if d then z else w) ≡ step_later n (if a' then x' else if b' then y' else if d' then z' else w')
-four n a b d a' b' d' x y z w x' y' z' w' pa pb pd px py pz pw =
-    ap (λ v. if v then x else if b then y else if d then z else w) pa
-    ∙ ap (λ v. if a' then x else if v then y else if d then z else w) pb
-    ∙ ap (λ v. if a' then x else if b' then y else if v then z else w) pd
-    ∙ null_later n a' _ x' _ (if b' then y' else if d' then z' else w') px (null_later n b' _ y' _ (if d' then z' else w') py (null_later n d' _ z' _ w' pz pw))
+two : (n : ℕ) (a a' : Bool) (x w x' w' : Transition PlainNetCall) → a ≡ a' → x ≡ step_later n x' → w ≡ step_later n w' → (if a then x else w) ≡ step_later n (if a' then x' else w')
+two n a a' x w x' w' pa px pw = ap (λ v. if v then x else w) pa ∙ null_later n a' _ x' _ w' px pw
 
 pub message_later : (n t : ℕ) (c : PlainNetCall) (m : Heard) → net_message (told_later n c) m (t + n) ≡ step_later n (net_message c m t)
-message_later n t c m = four n
-    (net_is_contradicted (state_later n c.state) c.origin m m.kind) (net_is_unacknowledged (state_later n c.state) c.origin m m.kind) (net_is_put_off (state_later n c.state) m m.kind)
-    (net_is_contradicted c.state c.origin m m.kind) (net_is_unacknowledged c.state c.origin m m.kind) (net_is_put_off c.state m m.kind)
-    (net_releases (told_later n c) Once (Some 101) (t + n)) (net_to c (Some (net_says c ConnectAcknowledge)) Active) (net_to c None (net_put_off (t + n) (state_later n c.state))) (net_row (at c (net_awake_state (state_later n c.state))) m (t + n) (net_awake_state (state_later n c.state)) m.kind)
-    (net_releases c Once (Some 101) t) (net_to c (Some (net_says c ConnectAcknowledge)) Active) (net_to c None (net_put_off t c.state)) (net_row (at c (net_awake_state c.state)) m t (net_awake_state c.state) m.kind)
-    (contradicted_later n c.state c.origin m m.kind) (unacknowledged_later n c.state c.origin m m.kind) (put_off_later n c.state m m.kind)
-    (releases_later n t c Once (Some 101)) refl (ap (λ s. net_to c None s) (puts_off n t c.state)) (woken n t c m c.state m.kind)
+message_later n t c m =
+    two n _ (net_is_contradicted c.state c.origin m m.kind) _ _ (net_releases c Once (Some 101) t) _ (contradicted_later n c.state c.origin m m.kind) (releases_later n t c Once (Some 101))
+    (two n _ (net_is_unacknowledged c.state c.origin m m.kind) _ _ (net_to c (Some (net_says c ConnectAcknowledge)) Active) _ (unacknowledged_later n c.state c.origin m m.kind) refl
+    (two n _ (net_is_put_off c.state m m.kind) _ _ (net_to c None (net_put_off t c.state)) _ (put_off_later n c.state m m.kind) (ap (λ s. net_to c None s) (puts_off n t c.state))
+    (two n _ (net_is_unconnected c.state c.origin m m.kind) _ _ (net_connects c) _ (unconnected_later n c.state c.origin m m.kind) refl
+    (two n _ (net_is_ringing c.state m m.kind) _ _ (net_to c None (net_rung t m.state)) _ (ringing_later n c.state m m.kind) (ap (λ s. net_to c None s) (rung_later n t m.state))
+    (woken n t c m c.state m.kind)))))
 
 -- ---- a call that is being cleared
 

@@ -18,7 +18,8 @@ use Rattle.bx_calls.specs.declared.net_state.NetState.TheVariants.{OutgoingCallP
 use Rattle.bx_calls.specs.Timers.{t301, t303, t305, t308, t310, t322}
 use Rattle.bx_calls.specs.PlainCalls.{PlainNetCall}
 use Rattle.bx_calls.specs.States.{net_state}
-use Rattle.bx_calls.specs.Hearing.{Heard, names_channel, reports_null, is_passing}
+use Rattle.bx_calls.specs.declared.rules.Rules.{Rules}
+use Rattle.bx_calls.specs.Hearing.{Heard, names_channel, reports_null, lacks_call, is_passing, is_by_three}
 use Rattle.bx_calls.specs.Saying.{network, with_cause, with_kept_cause, with_channel, status_of, setup_of}
 use Rattle.bx_calls.specs.Steps.{goes_on, ends, breaks}
 
@@ -164,16 +165,56 @@ is_after_outage First = false
 is_after_outage Second = false
 is_after_outage _ = true
 
--- such an offer is refused by a cause that passes, or the user was asked, and by STATUS reports that it has no such call
+-- no SETUP is on its way: what the user says of a call that it lacks answers a STATUS ENQUIRY, the last one or, by the rules 3, one
+-- before it
+abbrev pub awaits_word : Rules → Offer → Bool
+awaits_word rules Asked = true
+awaits_word rules Unlinked = is_by_three rules
+awaits_word rules PutOff = is_by_three rules
+awaits_word rules _ = false
+
+-- such an offer is refused by a cause that passes, or the user was asked, and reports that it has no such call: by STATUS, or, by
+-- the rules 3, by RELEASE COMPLETE (5.8.3.2)
 abbrev pub net_is_put_off : NetState → Heard → Kind → Bool
-net_is_put_off (CallPresent offer due) m ReleaseComplete = is_after_outage offer && is_passing m.cause
-net_is_put_off (CallPresent Asked due) m Status = reports_null m.state
+net_is_put_off (CallPresent offer due) m ReleaseComplete =
+    (is_after_outage offer && is_passing m.cause) || (awaits_word m.rules offer && (is_by_three m.rules && lacks_call m.cause))
+net_is_put_off (CallPresent offer due) m Status = awaits_word m.rules offer && reports_null m.state
 net_is_put_off _ m _ = false
 
 -- SETUP is due a second later
 abbrev pub net_put_off : ℕ → NetState → NetState
 net_put_off t (CallPresent PutOff due) = CallPresent PutOff due
 net_put_off t _ = CallPresent PutOff (t + 1)
+
+-- by the rules 3: the user was asked, and by STATUS reports that it waits for CONNECT, which was lost, of a call that it began
+abbrev pub waits_for_connect : Option ℕ → Bool
+waits_for_connect None = false
+waits_for_connect (Some n) = n == 3 || n == 1
+
+abbrev pub net_is_unconnected : NetState → NetOrigin → Heard → Kind → Bool
+net_is_unconnected (Enquiring asked due) Inward m Status = is_by_three m.rules && waits_for_connect m.state
+net_is_unconnected _ o m _ = false
+
+-- CONNECT with the channel, N10
+abbrev pub net_connects : PlainNetCall → Transition PlainNetCall
+net_connects c = net_to c (Some (with_channel c.channel (net_says c Connect))) Active
+
+-- by the rules 3: the user was asked in N6, and by STATUS reports that it has the call, and has not answered it yet
+abbrev pub reports_ringing : Option ℕ → Bool
+reports_ringing None = false
+reports_ringing (Some n) = n == 9 || n == 7
+
+abbrev pub net_is_ringing : NetState → Heard → Kind → Bool
+net_is_ringing (CallPresent Asked due) m Status = is_by_three m.rules && reports_ringing m.state
+net_is_ringing _ m _ = false
+
+-- as by CALL PROCEEDING, or by ALERTING
+abbrev pub is_alerted : Option ℕ → Bool
+is_alerted None = false
+is_alerted (Some n) = n == 7
+
+abbrev pub net_rung : ℕ → Option ℕ → NetState
+net_rung t reported = if is_alerted reported then CallReceived (t + t301) else IncomingCallProceeding (t + t310)
 
 -- any other message of the call shows that it is up (5.8.10)
 abbrev pub net_awake_state : NetState → NetState
@@ -186,6 +227,8 @@ net_heard c m t s k =
     if net_is_contradicted s c.origin m k then net_releases c Once (Some 101) t
     else if net_is_unacknowledged s c.origin m k then net_to c (Some (net_says c ConnectAcknowledge)) Active
     else if net_is_put_off s m k then net_to c None (net_put_off t s)
+    else if net_is_unconnected s c.origin m k then net_connects c
+    else if net_is_ringing s m k then net_to c None (net_rung t m.state)
     else net_row (record c { state = net_awake_state s }) m t (net_awake_state s) k
 
 abbrev pub net_message : PlainNetCall → Heard → ℕ → Transition PlainNetCall
@@ -216,7 +259,7 @@ net_release_due c t Twice cause = breaks
 
 -- by its timer, which is due at a moment
 abbrev pub net_timer : PlainNetCall → ℕ → NetState → Transition PlainNetCall
-net_timer c t OutgoingCallProceeding = net_to c (Some (with_channel c.channel (net_says c Connect))) Active
+net_timer c t OutgoingCallProceeding = net_connects c
 net_timer c t (CallPresent offer due) = if nat_le due t then net_offer_due c t offer else net_same c None
 net_timer c t (IncomingCallProceeding due) = if nat_le due t then net_disconnects c 102 t else net_same c None
 net_timer c t (CallReceived due) = if nat_le due t then net_disconnects c 102 t else net_same c None

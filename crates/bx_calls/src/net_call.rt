@@ -5,7 +5,7 @@ ghost use Rattle.bx_q931.specs.Kinds.{IsNamed};
 ghost use Rattle.bx_q931.specs.Outgoing.{IsCallReference};
 ghost use Rattle.bx_calls.specs.States.{net_state};
 ghost use Rattle.bx_calls.specs.Saying.{network, setup_of, with_kept_cause};
-ghost use Rattle.bx_calls.specs.NetTable.{net_flag, net_says, net_says_cause, net_status, net_offered, net_answered, proceeding_of, net_same, net_to, net_releases, net_disconnects, net_setup_again, net_offers, net_row, net_message, net_is_clearing, net_timer, net_second, net_due};
+ghost use Rattle.bx_calls.specs.NetTable.{net_flag, net_says, net_says_cause, net_status, net_offered, net_answered, proceeding_of, net_same, net_to, net_releases, net_disconnects, net_connects, net_setup_again, net_offers, net_row, net_message, net_is_clearing, net_timer, net_second, net_due};
 
 use crate::call_state::CallState;
 use crate::net_state::{NetOrigin, NetState, Offer};
@@ -181,6 +181,14 @@ impl NetCall {
         let due = moment + T305;
         let reply = self.says_cause(Kind::Disconnect, cause);
         self.goes(Some(reply), NetState::DisconnectIndication { cause, due })
+    }
+
+    /// CONNECT with the channel, and N10.
+    pub(crate) fn connects(self) -> Transition<NetCall>
+        ensures { result ≡ net_connects self }
+    {
+        let reply = self.says(Kind::Connect).with_channel(self.channel, true);
+        self.goes(Some(reply), NetState::Active)
     }
 
     /// SETUP again, where this side began the call, and T303.

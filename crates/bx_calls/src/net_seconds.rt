@@ -57,10 +57,7 @@ impl NetCall {
         ensures { result ≡ net_timer self moment self.state }
     {
         match self.state {
-            NetState::OutgoingCallProceeding => {
-                let reply = self.says(Kind::Connect).with_channel(self.channel, true);
-                self.goes(Some(reply), NetState::Active)
-            }
+            NetState::OutgoingCallProceeding => self.connects(),
             NetState::CallPresent { offer, due } if due <= moment => self.on_offer(offer, moment),
             NetState::IncomingCallProceeding { due } | NetState::CallReceived { due }
                 if due <= moment => self.disconnects(RECOVERY_ON_TIMER_EXPIRY, moment),

@@ -1,6 +1,8 @@
 -- The day of another plan goes on as that of the plan before, where both agree on the past. A booking that is idle at the end was so at
 -- each moment before: it held no channel, nothing was said for it, and no call was taken for it. So it may be another one in the other plan, as
 -- long as that one is idle up to moment m too. What has begun is the same, but for an end that is yet to come.
+use Rattle.bx_calls.specs.declared.rules.Rules.TheVariants.{Two, Three}
+use Rattle.bx_calls.specs.declared.rules.Rules.{Rules}
 use Rattle.std.proofs.Common.{◌≡◌, ℕ, zero, suc, ◌+◌, ◌≤◌, ◌<◌, ◌==◌, ◌⊎◌, ◌&&◌, ◌||◌, not, Bool, true, false, List, [], ◌∷◌, ◌++◌, map, flat_map, length, Option, Some, None, arith, refl, sym, subst, ap, ap₂, ◌∙◌, inl, inr, nat_le, nat_lt, slice_set, if◌then◌else◌, Result, Ok, Err}
 use Rattle.std.specs.List.{AllByRecursion, list_any, position}
 use Rattle.std.specs.Option.{option_map}
@@ -17,7 +19,7 @@ use Rattle.bx_q931.specs.declared.channel_field.ChannelField.{ChannelField}
 use Rattle.bx_q931.specs.declared.channel_field.ChannelField.TheVariants.{Named, Unread}
 use Rattle.bx_base.specs.Bookings.{is_running}
 use Rattle.bx_channels.specs.Marks.{is_marked}
-use Rattle.bx_calls.specs.Said.{Said, said_of}
+use Rattle.bx_calls.specs.Said.{Said, said_under}
 use Rattle.bx_calls.specs.Saying.{setup_of}
 use Rattle.bx_calls.specs.Sending.{Sent, Answered, reply_list}
 use Rattle.bx_calls.specs.PlainCalls.{PlainNetCall}
@@ -25,7 +27,7 @@ use Rattle.bx_calls.specs.NetTable.{net_second, net_unlinked, net_offered, net_i
 use Rattle.bx_calls.specs.declared.net_state.NetState.TheVariants.{DisconnectIndication}
 use Rattle.bx_calls.specs.declared.transition.Next.{Next}
 use Rattle.bx_calls.specs.declared.transition.Next.TheVariants.{Live, Over, Broken}
-use Rattle.bx_events.specs.Events.{Event, Tick, Receive, LiveEvent, OnLink, WithoutLink, Sold}
+use Rattle.bx_events.specs.Events.{Event, Tick, Receive, LiveEvent, OnLink, WithoutLink, Sold, HeardByRulesTwo}
 use Rattle.bx_day.specs.declared.entry.Activity.{Activity}
 use Rattle.bx_day.specs.declared.entry.Activity.TheVariants.{Never, Since, Was}
 use Rattle.bx_day.specs.declared.entry.Entry.{Entry}
@@ -605,22 +607,23 @@ module _ (m : ℕ) (d : Day) (ns : List Entry) (now : d.moment < m) where
       subst (λ x. Hears m ns d (received_at d sm (Some i)) (received_at (onto ns d) sm x))
       (sym (first_shared m (names sm) (names sm) d.entries ns before (fewer_named sm) (λ n r. unnamed sm n.standing (rests_unheld m n.booking.start n.standing r.rests)) (Some i) is (λ j q. subst (λ k. names sm (entry_at (with_past d.entries ns) k) ≡ true) (some_is i j q) (ap (names_call sm) standing ∙ p.1)))) h
 
-  from_onto : (pm : PlainMessage) (r : Reference) → AreShared m (receive_from d pm r).day.entries ns → Hears m ns d (receive_from d pm r) (receive_from (onto ns d) pm r)
-  from_onto pm Dummy = λ after. ignored None after
-  from_onto pm (Value value flag) = both (value == 0) _ _ _ _ (λ (x x' : Answered Day). AreShared m x.day.entries ns → Hears m ns d x x') (λ after. ignored None after) (λ after. received_onto (said_of value flag pm) (position (names (said_of value flag pm)) d.entries) refl after)
+  from_onto : (u : Rules) (pm : PlainMessage) (r : Reference) → AreShared m (receive_from u d pm r).day.entries ns → Hears m ns d (receive_from u d pm r) (receive_from u (onto ns d) pm r)
+  from_onto u pm Dummy = λ after. ignored None after
+  from_onto u pm (Value value flag) = both (value == 0) _ _ _ _ (λ (x x' : Answered Day). AreShared m x.day.entries ns → Hears m ns d x x') (λ after. ignored None after) (λ after. received_onto (said_under u value flag pm) (position (names (said_under u value flag pm)) d.entries) refl after)
 
-  read_onto : (r : Result PlainMessage MessageFault) → AreShared m (receive_read d r).day.entries ns → Hears m ns d (receive_read d r) (receive_read (onto ns d) r)
-  read_onto (Err fault) after = ignored None after
-  read_onto (Ok pm) after = from_onto pm pm.reference after
+  read_onto : (u : Rules) (r : Result PlainMessage MessageFault) → AreShared m (receive_read u d r).day.entries ns → Hears m ns d (receive_read u d r) (receive_read u (onto ns d) r)
+  read_onto u (Err fault) after = ignored None after
+  read_onto u (Ok pm) after = from_onto u pm pm.reference after
 
   happens_onto : (e : Event) → AreShared m (happens d e).day.entries ns → (happens d e).day.moment < m → Goes m ns d (happens d e) (happens (onto ns d) e)
   happens_onto Tick after early = tick_onto m d ns after early
-  happens_onto (Receive octets) after early = let h = read_onto (message_at octets) after in record { day = h.day; sent = ap reply_list h.reply; shared = h.shared }
+  happens_onto (Receive octets) after early = let h = read_onto Three (message_at octets) after in record { day = h.day; sent = ap reply_list h.reply; shared = h.shared }
 
   event_onto : (e : LiveEvent) → AreShared m (live_happens d e).day.entries ns → (live_happens d e).day.moment < m → Goes m ns d (live_happens d e) (live_happens (onto ns d) e)
   event_onto (OnLink e) after early = happens_onto e after early
   event_onto WithoutLink after early = let h = without_onto m d ns after early in record { day = h.0; sent = refl; shared = h.1 }
   event_onto (Sold booking) after early = record { day = refl; sent = refl; shared = after }
+  event_onto (HeardByRulesTwo octets) after early = let h = read_onto Two (message_at octets) after in record { day = h.day; sent = ap reply_list h.reply; shared = h.shared }
 
 -- ---- a run, from its end on
 

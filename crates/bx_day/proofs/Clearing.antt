@@ -1,9 +1,11 @@
 -- Clearing takes 38 seconds at most after the end of a booking, and each second without a link, and T308 for each outage: every event keeps that.
+use Rattle.bx_calls.specs.declared.rules.Rules.TheVariants.{Two, Three}
+use Rattle.bx_calls.specs.declared.rules.Rules.{Rules}
 use Rattle.std.proofs.Common.{◌≡◌, ℕ, ◌+◌, ◌*◌, ◌≤◌, ◌<◌, Bool, true, false, List, [], ◌∷◌, map, Option, Some, None, arith, refl, sym, ap, ◌∙◌, ◌&&◌, subst, inl, inr, nat_le, nat_lt, if◌then◌else◌, Result, Ok, Err, ◌==◌}
 use Rattle.std.specs.List.{AllByRecursion, position}
 use Rattle.std.proofs.lemmas.Bool.{false≢true, leb-false, leb-true, le-leb, lt-ltb, le-ltb, and_from, and_right, cases_lt, true≢false}
 use Rattle.bx_q931.specs.Outgoing.{Outgoing}
-use Rattle.bx_events.specs.Events.{Event, Tick, Receive, LiveEvent, OnLink, WithoutLink, Sold}
+use Rattle.bx_events.specs.Events.{Event, Tick, Receive, LiveEvent, OnLink, WithoutLink, Sold, HeardByRulesTwo}
 use Rattle.bx_q931.specs.Messages.{PlainMessage, message_at}
 use Rattle.bx_q931.specs.declared.fault.MessageFault.{MessageFault}
 use Rattle.bx_q931.specs.declared.kind.Kind.{Kind}
@@ -23,8 +25,8 @@ use Rattle.bx_calls.specs.declared.times.Times.TheVariants.{NotYet, Once, Twice}
 use Rattle.bx_calls.specs.declared.net_state.NetState.{NetState}
 use Rattle.bx_calls.specs.declared.net_state.NetState.TheVariants.{Active, CallPresent, Enquiring, DisconnectIndication, ReleaseRequest}
 use Rattle.bx_calls.specs.Hearing.{Heard, reports_null}
-use Rattle.bx_calls.specs.NetTable.{net_awake_state, net_heard, net_put_off, net_releases, net_row, net_says, net_to, net_second, net_unlinked}
-use Rattle.bx_calls.specs.Said.{Said, said_of}
+use Rattle.bx_calls.specs.NetTable.{net_awake_state, net_heard, net_put_off, net_releases, net_row, net_says, net_to, net_second, net_unlinked, net_connects, net_rung}
+use Rattle.bx_calls.specs.Said.{Said, said_under}
 use Rattle.bx_calls.specs.Sending.{Sent, Answered}
 use Rattle.bx_day.specs.Day.{Day, entry_at, is_back, is_free, opening, entry_of, entries_from, every_channel}
 use Rattle.bx_day.specs.Moves.{follow, follows, over_at}
@@ -185,6 +187,8 @@ heard_clears x t e r ch o a m s k h c = heard_by (StepClears x t e a) (call_of r
       unacknowledged = λ asked due is q. early_clears x t e a (net_to (call_of r ch o s) (Some (net_says (call_of r ch o s) ConnectAcknowledge)) Active) (runs_on (Enquiring asked due) is (λ p. p.1));
       connected = λ due is q. early_clears x t e a (net_to (call_of r ch o s) (Some (net_says (call_of r ch o s) ConnectAcknowledge)) Active) (runs_on (CallPresent Asked due) is (λ p. p.1));
       put_off = λ offer due is q. early_clears x t e a (net_to (call_of r ch o s) None (net_put_off t (CallPresent offer due))) (runs_on (CallPresent offer due) is (λ p. p.1));
+      unconnected = λ asked due is q. early_clears x t e a (net_connects (call_of r ch o s)) (runs_on (Enquiring asked due) is (λ p. p.1));
+      ringing = λ due is q. early_clears x t e a (net_to (call_of r ch o s) None (net_rung t m.state)) (runs_on (CallPresent Asked due) is (λ p. p.1));
     })
     (row_clears x t e r ch o a m (net_awake_state s) k (awake_fits t e r ch o s a h) (awake_clears x.lasts (e.booking.end + added x) e.booking.end t s c))
   where
@@ -256,17 +260,17 @@ received_clears lost d m (Some i) fits h =
     let e = entry_at d.entries i in
     moved_clears lost d i (hears m d.moment e.standing) (λ k. hears_clears (lost e.booking.end) d.moment m e e.standing (all_at (EntryFits d.moment) tt d.entries i fits.each) k) h
 
-from_clears : (lost : ℕ → Lost) (d : Day) (m : PlainMessage) (r : Reference) → DayFits d → DayClears lost d → DayClears lost (receive_from d m r).day
-from_clears lost d m Dummy fits h = h
-from_clears lost d m (Value value flag) fits h = by_cases (value == 0) _ _ (λ (x : Answered Day). DayClears lost x.day) (λ _. h) (λ _. received_clears lost d (said_of value flag m) (position (names (said_of value flag m)) d.entries) fits h)
+from_clears : (u : Rules) (lost : ℕ → Lost) (d : Day) (m : PlainMessage) (r : Reference) → DayFits d → DayClears lost d → DayClears lost (receive_from u d m r).day
+from_clears u lost d m Dummy fits h = h
+from_clears u lost d m (Value value flag) fits h = by_cases (value == 0) _ _ (λ (x : Answered Day). DayClears lost x.day) (λ _. h) (λ _. received_clears lost d (said_under u value flag m) (position (names (said_under u value flag m)) d.entries) fits h)
 
-read_clears : (lost : ℕ → Lost) (d : Day) (r : Result PlainMessage MessageFault) → DayFits d → DayClears lost d → DayClears lost (receive_read d r).day
-read_clears lost d (Err fault) fits h = h
-read_clears lost d (Ok m) fits h = from_clears lost d m m.reference fits h
+read_clears : (u : Rules) (lost : ℕ → Lost) (d : Day) (r : Result PlainMessage MessageFault) → DayFits d → DayClears lost d → DayClears lost (receive_read u d r).day
+read_clears u lost d (Err fault) fits h = h
+read_clears u lost d (Ok m) fits h = from_clears u lost d m m.reference fits h
 
 happens_clears : (lost : ℕ → Lost) (d : Day) (e : Event) → DayFits d → DayClears lost d → DayClears (λ m. lost_by m d (OnLink e) (lost m)) (happens d e).day
 happens_clears lost d Tick fits h = by_cases (nat_le 300000 d.moment) _ _ (λ (s : Sent Day). DayClears (λ m. linked (lost m)) s.day) (λ _. still_linked lost d.moment d.entries h) (λ _. up_clears lost d d.entries fits.each h)
-happens_clears lost d (Receive octets) fits h = read_clears lost d (message_at octets) fits h
+happens_clears lost d (Receive octets) fits h = read_clears Three lost d (message_at octets) fits h
 
 -- ---- a run
 
@@ -288,6 +292,7 @@ event_clears : (lost : ℕ → Lost) (d : Day) (e : LiveEvent) → DayFits d →
 event_clears lost d (OnLink e) fits h = happens_clears lost d e fits h
 event_clears lost d WithoutLink fits h = without_clears lost d fits h
 event_clears lost d (Sold booking) fits h = h
+event_clears lost d (HeardByRulesTwo octets) fits h = read_clears Two lost d (message_at octets) fits h
 
 pub run_clears : (rows : List Row) (assigned : List (Option ℕ)) (lost : ℕ → Lost) (events : List LiveEvent) (d : Day) → RunFits rows assigned d → DayClears lost d → DayClears (λ m. lost_after m events d (lost m)) (live_day_after events d)
 run_clears rows assigned lost [] d run h = h

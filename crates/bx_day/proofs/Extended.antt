@@ -1,5 +1,7 @@
 -- The day of a longer plan goes on as that of the plan before. Up to moment m a booking that starts at m or later is refused or
 -- waits, on whatever channel: it holds none, it is not offered or called, and nothing is said for it. All else is the same.
+use Rattle.bx_calls.specs.declared.rules.Rules.TheVariants.{Two, Three}
+use Rattle.bx_calls.specs.declared.rules.Rules.{Rules}
 use Rattle.std.proofs.Common.{◌≡◌, ℕ, zero, suc, ◌+◌, ◌≤◌, ◌<◌, ◌==◌, ◌⊎◌, ◌&&◌, ◌||◌, not, Bool, true, false, List, [], ◌∷◌, ◌++◌, map, flat_map, length, Option, Some, None, arith, refl, sym, subst, ap, ap₂, ◌∙◌, inl, inr, nat_le, nat_lt, slice_set, if◌then◌else◌, Result, Ok, Err}
 use Rattle.std.specs.List.{AllByRecursion, list_any, position}
 use Rattle.std.specs.Option.{option_map}
@@ -17,11 +19,11 @@ use Rattle.bx_q931.specs.declared.channel_field.ChannelField.TheVariants.{Named,
 use Rattle.bx_base.specs.Bookings.{is_running}
 use Rattle.bx_channels.specs.Marks.{is_marked}
 use Rattle.bx_calls.specs.Shared.{cons_some}
-use Rattle.bx_calls.specs.Said.{Said, said_of}
+use Rattle.bx_calls.specs.Said.{Said, said_under}
 use Rattle.bx_calls.specs.Saying.{setup_of}
 use Rattle.bx_calls.specs.Sending.{Sent, Answered, reply_list}
 use Rattle.bx_calls.specs.NetTable.{net_second, net_unlinked, net_offered}
-use Rattle.bx_events.specs.Events.{Event, Tick, Receive, LiveEvent, OnLink, WithoutLink, Sold}
+use Rattle.bx_events.specs.Events.{Event, Tick, Receive, LiveEvent, OnLink, WithoutLink, Sold, HeardByRulesTwo}
 use Rattle.bx_day.specs.declared.entry.Activity.TheVariants.{Never}
 use Rattle.bx_day.specs.declared.entry.Entry.{Entry}
 use Rattle.bx_day.specs.declared.entry.Link.{Link}
@@ -435,22 +437,23 @@ module _ (m : ℕ) (d : Day) (ns : List Entry) (seats : AreSeats m d.entries ns)
   receive_over : (sm : Said) → Hears m ns (receive d sm) (receive (over ns d) sm)
   receive_over sm = subst (λ o. Hears m ns (receive d sm) (received_at (over ns d) sm o)) (sym (names_over sm)) (received_over sm (position (names sm) d.entries) refl)
 
-  from_over : (pm : PlainMessage) (r : Reference) → Hears m ns (receive_from d pm r) (receive_from (over ns d) pm r)
-  from_over pm Dummy = ignored None
-  from_over pm (Value value flag) = both (value == 0) _ _ _ _ (Hears m ns) (ignored None) (receive_over (said_of value flag pm))
+  from_over : (u : Rules) (pm : PlainMessage) (r : Reference) → Hears m ns (receive_from u d pm r) (receive_from u (over ns d) pm r)
+  from_over u pm Dummy = ignored None
+  from_over u pm (Value value flag) = both (value == 0) _ _ _ _ (Hears m ns) (ignored None) (receive_over (said_under u value flag pm))
 
-  read_over : (r : Result PlainMessage MessageFault) → Hears m ns (receive_read d r) (receive_read (over ns d) r)
-  read_over (Err fault) = ignored None
-  read_over (Ok pm) = from_over pm pm.reference
+  read_over : (u : Rules) (r : Result PlainMessage MessageFault) → Hears m ns (receive_read u d r) (receive_read u (over ns d) r)
+  read_over u (Err fault) = ignored None
+  read_over u (Ok pm) = from_over u pm pm.reference
 
   happens_over : (e : Event) → (happens d e).day.moment < m → Goes m ns (happens d e) (happens (over ns d) e)
   happens_over Tick before = tick_over m d ns seats before
-  happens_over (Receive octets) before = let h = read_over (message_at octets) in record { day = h.day; sent = ap reply_list h.reply; seats = h.seats }
+  happens_over (Receive octets) before = let h = read_over Three (message_at octets) in record { day = h.day; sent = ap reply_list h.reply; seats = h.seats }
 
   event_over : (e : LiveEvent) → (live_happens d e).day.moment < m → Goes m ns (live_happens d e) (live_happens (over ns d) e)
   event_over (OnLink e) before = happens_over e before
   event_over WithoutLink before = let h = without_over m d ns seats before in record { day = h.0; sent = refl; seats = h.1 }
   event_over (Sold booking) before = record { day = refl; sent = refl; seats = seats }
+  event_over (HeardByRulesTwo octets) before = let h = read_over Two (message_at octets) in record { day = h.day; sent = ap reply_list h.reply; seats = h.seats }
 
 -- ---- a run: the moment never goes back
 
@@ -483,19 +486,20 @@ received_later : (d : Day) (sm : Said) (o : Option ℕ) → Later d (received_at
 received_later d sm None = stray_later d sm sm.heard.kind
 received_later d sm (Some i) = omega arith
 
-from_later : (d : Day) (pm : PlainMessage) (r : Reference) → Later d (receive_from d pm r).day
-from_later d pm Dummy = omega arith
-from_later d pm (Value value flag) = by_cases (value == 0) _ _ (λ (x : Answered Day). Later d x.day) (λ _. omega arith) (λ _. received_later d (said_of value flag pm) (position (names (said_of value flag pm)) d.entries))
+from_later : (u : Rules) (d : Day) (pm : PlainMessage) (r : Reference) → Later d (receive_from u d pm r).day
+from_later u d pm Dummy = omega arith
+from_later u d pm (Value value flag) = by_cases (value == 0) _ _ (λ (x : Answered Day). Later d x.day) (λ _. omega arith) (λ _. received_later d (said_under u value flag pm) (position (names (said_under u value flag pm)) d.entries))
 
-read_later : (d : Day) (r : Result PlainMessage MessageFault) → Later d (receive_read d r).day
-read_later d (Err fault) = omega arith
-read_later d (Ok pm) = from_later d pm pm.reference
+read_later : (u : Rules) (d : Day) (r : Result PlainMessage MessageFault) → Later d (receive_read u d r).day
+read_later u d (Err fault) = omega arith
+read_later u d (Ok pm) = from_later u d pm pm.reference
 
 pub event_later : (d : Day) (e : LiveEvent) → Later d (live_happens d e).day
 event_later d (OnLink Tick) = by_cases (nat_le 300000 d.moment) _ _ (λ (x : Sent Day). Later d x.day) (λ _. omega arith) (λ _. omega arith)
-event_later d (OnLink (Receive octets)) = read_later d (message_at octets)
+event_later d (OnLink (Receive octets)) = read_later Three d (message_at octets)
 event_later d WithoutLink = by_cases (nat_le 300000 d.moment) _ _ (Later d) (λ _. omega arith) (λ _. omega arith)
 event_later d (Sold booking) = omega arith
+event_later d (HeardByRulesTwo octets) = read_later Two d (message_at octets)
 
 pub run_later : (events : List LiveEvent) (d : Day) → d.moment ≤ (live_day_after events d).moment
 run_later [] d = omega arith

@@ -13,7 +13,7 @@ use Rattle.bx_calls.specs.declared.times.Times.{Times}
 use Rattle.bx_calls.specs.declared.times.Times.TheVariants.{Once}
 use Rattle.bx_calls.specs.declared.transition.Transition.{Transition}
 use Rattle.bx_calls.specs.Hearing.{Heard, names_channel, reports_null}
-use Rattle.bx_calls.specs.NetTable.{net_awake_state, net_is_contradicted, net_is_unacknowledged, net_is_put_off, net_put_off, net_releases, net_row, net_says, net_heard, net_to}
+use Rattle.bx_calls.specs.NetTable.{net_awake_state, net_is_contradicted, net_is_unacknowledged, net_is_put_off, net_put_off, net_is_unconnected, net_connects, net_is_ringing, net_rung, is_alerted, net_releases, net_row, net_says, net_heard, net_to}
 use Rattle.bx_calls.specs.PlainCalls.{PlainNetCall}
 use Rattle.bx_day.specs.Moves.{over_at}
 use Rattle.bx_day.specs.declared.entry.Entry.{Entry}
@@ -83,23 +83,34 @@ put_off_fits : (t : ℕ) (e : Entry) (r ch : ℕ) (o : NetOrigin) (offer : Offer
 put_off_fits t e r ch o PutOff due a h = same_fits t e r ch o (CallPresent PutOff due) a h
 put_off_fits t e r ch o offer due a h = goes_on t t e r ch o (CallPresent offer due) a (CallPresent PutOff (t + 1)) h h.phase (omega arith, omega arith) (ringing_kept t t e.booking a h.activity)
 
+-- the call rings
+rung_fits : (t : ℕ) (e : Entry) (r ch : ℕ) (o : NetOrigin) (due : ℕ) (a : Activity) (reported : Option ℕ) → CallFits t e (call_of r ch o (CallPresent Asked due)) a → StepFits t e a (net_to (call_of r ch o (CallPresent Asked due)) None (net_rung t reported))
+rung_fits t e r ch o due a reported h = by_cases (is_alerted reported) _ _ (λ (s : NetState). StepFits t e a (net_to (call_of r ch o (CallPresent Asked due)) None s))
+    (λ _. goes_on t t e r ch o (CallPresent Asked due) a (CallReceived (t + 180)) h h.phase (omega arith, omega arith) (ringing_kept t t e.booking a h.activity))
+    (λ _. goes_on t t e r ch o (CallPresent Asked due) a (IncomingCallProceeding (t + 10)) h h.phase (omega arith, omega arith) (ringing_kept t t e.booking a h.activity))
+
 -- what comes before all rows: a call that is asked for is released by a report that does not fit, and CONNECT ACKNOWLEDGE is sent for one
--- that waits for it; SETUP is put off for one that is not known, or whose refusal passes
+-- that waits for it; SETUP is put off for one that is not known, or whose refusal passes; CONNECT is sent again for one that waits for
+-- it, and one that has not been answered goes to N9 or N7
 pub record HoldsBefore (P : Transition PlainNetCall → Type 0) (c : PlainNetCall) (m : Heard) (t : ℕ) (s : NetState) (k : Kind) : Type 0 where
   pub contradicted : (asked : Times) (due : ℕ) → s ≡ Enquiring asked due → net_is_contradicted s c.origin m k ≡ true → P (net_releases c Once (Some 101) t)
   pub unacknowledged : (asked : Times) (due : ℕ) → s ≡ Enquiring asked due → net_is_unacknowledged s c.origin m k ≡ true → P (net_to c (Some (net_says c ConnectAcknowledge)) Active)
   pub connected : (due : ℕ) → s ≡ CallPresent Asked due → net_is_unacknowledged s c.origin m k ≡ true → P (net_to c (Some (net_says c ConnectAcknowledge)) Active)
   pub put_off : (offer : Offer) (due : ℕ) → s ≡ CallPresent offer due → net_is_put_off s m k ≡ true → P (net_to c None (net_put_off t (CallPresent offer due)))
+  pub unconnected : (asked : Times) (due : ℕ) → s ≡ Enquiring asked due → net_is_unconnected s c.origin m k ≡ true → P (net_connects c)
+  pub ringing : (due : ℕ) → s ≡ CallPresent Asked due → net_is_ringing s m k ≡ true → P (net_to c None (net_rung t m.state))
 
 -- any other message finds a call that is asked for Active
 pub heard_by : (P : Transition PlainNetCall → Type 0) (c : PlainNetCall) (m : Heard) (t : ℕ) (s : NetState) (k : Kind)
     → HoldsBefore P c m t s k → P (net_row (record c { state = net_awake_state s }) m t (net_awake_state s) k) → P (net_heard c m t s k)
 heard_by P c m t (Enquiring asked due) k h g =
     by_cases (net_is_contradicted (Enquiring asked due) c.origin m k) _ _ P (λ q. h.contradicted asked due refl q)
-    (λ _. by_cases (net_is_unacknowledged (Enquiring asked due) c.origin m k) _ _ P (λ q. h.unacknowledged asked due refl q) (λ _. g))
+    (λ _. by_cases (net_is_unacknowledged (Enquiring asked due) c.origin m k) _ _ P (λ q. h.unacknowledged asked due refl q)
+    (λ _. by_cases (net_is_unconnected (Enquiring asked due) c.origin m k) _ _ P (λ q. h.unconnected asked due refl q) (λ _. g)))
 heard_by P c m t (CallPresent Asked due) k h g =
     by_cases (net_is_unacknowledged (CallPresent Asked due) c.origin m k) _ _ P (λ q. h.connected due refl q)
-    (λ _. by_cases (net_is_put_off (CallPresent Asked due) m k) _ _ P (λ q. h.put_off Asked due refl q) (λ _. g))
+    (λ _. by_cases (net_is_put_off (CallPresent Asked due) m k) _ _ P (λ q. h.put_off Asked due refl q)
+    (λ _. by_cases (net_is_ringing (CallPresent Asked due) m k) _ _ P (λ q. h.ringing due refl q) (λ _. g)))
 heard_by P c m t (CallPresent offer due) k h g = by_cases (net_is_put_off (CallPresent offer due) m k) _ _ P (λ q. h.put_off offer due refl q) (λ _. g)
 heard_by P c m t s k h g = g
 
@@ -110,6 +121,8 @@ message_fits t e r ch o a m s k h = heard_by (StepFits t e a) (call_of r ch o s)
       unacknowledged = λ asked due is q. let f = at (Enquiring asked due) is in goes_on t t e r ch o (Enquiring asked due) a Active f f.phase tt (talking_kept t t e.booking a (omega arith) f.activity);
       connected = λ due is q. let f = at (CallPresent Asked due) is in goes_on t t e r ch o (CallPresent Asked due) a Active f f.phase tt (ringing_talks t t e.booking a f.phase.0 f.activity);
       put_off = λ offer due is q. put_off_fits t e r ch o offer due a (at (CallPresent offer due) is);
+      unconnected = λ asked due is q. let f = at (Enquiring asked due) is in goes_on t t e r ch o (Enquiring asked due) a Active f f.phase tt (talking_kept t t e.booking a (omega arith) f.activity);
+      ringing = λ due is q. rung_fits t e r ch o due a m.state (at (CallPresent Asked due) is);
     })
     (row_fits t e r ch o a m (net_awake_state s) k (awake_fits t e r ch o s a h))
   where

@@ -1,4 +1,6 @@
 -- One call per channel: the opening day, every event, and what that says.
+use Rattle.bx_calls.specs.declared.rules.Rules.TheVariants.{Two, Three}
+use Rattle.bx_calls.specs.declared.rules.Rules.{Rules}
 use Rattle.std.proofs.Common.{◌≡◌, ◌≢◌, ℕ, zero, suc, ◌+◌, ◌≤◌, ◌<◌, not, Bool, true, false, List, [], ◌∷◌, map, length, Option, Some, None, arith, refl, sym, subst, ap, ◌∙◌, slice_set, slice_index_or, nat_le, nat_lt, ◌==◌, Result, Ok, Err}
 use Rattle.std.specs.Prelude.{is_some}
 use Rattle.std.specs.Option.{unwrap_or}
@@ -15,7 +17,7 @@ use Rattle.bx_calls.specs.declared.net_state.NetState.TheVariants.{DisconnectInd
 use Rattle.bx_calls.specs.NetTable.{net_message, net_second, net_unlinked}
 use Rattle.bx_base.specs.Bookings.{Row, row_at, is_running, AreBookings, Carries}
 use Rattle.bx_base.specs.Plans.{is_accepted, channel_at}
-use Rattle.bx_calls.specs.Said.{Said, said_of}
+use Rattle.bx_calls.specs.Said.{Said, said_under}
 use Rattle.bx_day.specs.declared.entry.Activity.{Activity}
 use Rattle.bx_day.specs.declared.entry.Standing.{Standing}
 use Rattle.bx_day.specs.declared.entry.Standing.TheVariants.{Unoffered, OnCall, Carried}
@@ -28,7 +30,7 @@ use Rattle.bx_day.specs.Day.{is_back, Day, entry_at, no_entry, opening, entry_of
 use Rattle.bx_day.specs.Ticks.{after_in, second_at, second_by, waits, tick, passed_in}
 use Rattle.bx_day.specs.Receipts.{hears, takes_call, takes_or, takes_preferred, called_on, called, stray, received_at, receive, opens, lowest_open, names, with_moved}
 use Rattle.bx_calls.specs.Sending.{Sent, Answered}
-use Rattle.bx_events.specs.Events.{Event, Tick, Receive, LiveEvent, OnLink, WithoutLink, Sold}
+use Rattle.bx_events.specs.Events.{Event, Tick, Receive, LiveEvent, OnLink, WithoutLink, Sold, HeardByRulesTwo}
 use Rattle.bx_day.specs.Outages.{Lost, without_link, live_happens, live_day_after}
 use Rattle.bx_day.specs.Run.{receive_from, receive_read, happens, day_after}
 use Rattle.bx_q931.specs.Messages.{PlainMessage, message_at}
@@ -247,17 +249,17 @@ referred_by_row rows assigned d fits i lt = (each_at (Placed rows assigned) d.en
 received_run : (rows : List Row) (assigned : List (Option ℕ)) (d : Day) (m : Said) → RunFits rows assigned d → RunFits rows assigned (receive d m).day
 received_run rows assigned d m h = record { day = receive_fits d m h.day; framed = received_framed rows assigned d m (position (names m) d.entries) h.framed }
 
-from_run : (rows : List Row) (assigned : List (Option ℕ)) (d : Day) (m : PlainMessage) (r : Reference) → RunFits rows assigned d → RunFits rows assigned (receive_from d m r).day
-from_run rows assigned d m Dummy h = h
-from_run rows assigned d m (Value value flag) h = by_cases (value == 0) _ _ (λ (x : Answered Day). RunFits rows assigned x.day) (λ _. h) (λ _. received_run rows assigned d (said_of value flag m) h)
+from_run : (u : Rules) (rows : List Row) (assigned : List (Option ℕ)) (d : Day) (m : PlainMessage) (r : Reference) → RunFits rows assigned d → RunFits rows assigned (receive_from u d m r).day
+from_run u rows assigned d m Dummy h = h
+from_run u rows assigned d m (Value value flag) h = by_cases (value == 0) _ _ (λ (x : Answered Day). RunFits rows assigned x.day) (λ _. h) (λ _. received_run rows assigned d (said_under u value flag m) h)
 
-read_run : (rows : List Row) (assigned : List (Option ℕ)) (d : Day) (r : Result PlainMessage MessageFault) → RunFits rows assigned d → RunFits rows assigned (receive_read d r).day
-read_run rows assigned d (Err fault) h = h
-read_run rows assigned d (Ok m) h = from_run rows assigned d m m.reference h
+read_run : (u : Rules) (rows : List Row) (assigned : List (Option ℕ)) (d : Day) (r : Result PlainMessage MessageFault) → RunFits rows assigned d → RunFits rows assigned (receive_read u d r).day
+read_run u rows assigned d (Err fault) h = h
+read_run u rows assigned d (Ok m) h = from_run u rows assigned d m m.reference h
 
 pub happens_fits : (rows : List Row) (assigned : List (Option ℕ)) (d : Day) (e : Event) → RunFits rows assigned d → RunFits rows assigned (happens d e).day
 happens_fits rows assigned d Tick h = record { day = tick_fits d h.day; framed = tick_framed rows assigned d h.framed }
-happens_fits rows assigned d (Receive octets) h = read_run rows assigned d (message_at octets) h
+happens_fits rows assigned d (Receive octets) h = read_run Three rows assigned d (message_at octets) h
 
 pub run_fits : (rows : List Row) (assigned : List (Option ℕ)) (events : List Event) (d : Day) → RunFits rows assigned d → RunFits rows assigned (day_after events d)
 run_fits rows assigned [] d h = h
@@ -270,6 +272,7 @@ pub live_fits : (rows : List Row) (assigned : List (Option ℕ)) (d : Day) (e : 
 live_fits rows assigned d (OnLink e) h = happens_fits rows assigned d e h
 live_fits rows assigned d WithoutLink h = without_run rows assigned d h
 live_fits rows assigned d (Sold booking) h = h
+live_fits rows assigned d (HeardByRulesTwo octets) h = read_run Two rows assigned d (message_at octets) h
 
 pub live_run : (rows : List Row) (assigned : List (Option ℕ)) (events : List LiveEvent) (d : Day) → RunFits rows assigned d → RunFits rows assigned (live_day_after events d)
 live_run rows assigned [] d h = h

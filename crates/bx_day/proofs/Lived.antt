@@ -1,4 +1,6 @@
 -- What starts later is idle, and what is over was so by now: on every day of a plan.
+use Rattle.bx_calls.specs.declared.rules.Rules.TheVariants.{Two, Three}
+use Rattle.bx_calls.specs.declared.rules.Rules.{Rules}
 use Rattle.std.proofs.Common.{◌≡◌, ℕ, suc, ◌+◌, ◌≤◌, ◌<◌, ◌==◌, Bool, true, false, List, [], ◌∷◌, map, length, Option, Some, None, arith, refl, ap, ◌∙◌, nat_le, Result, Ok, Err}
 use Rattle.std.specs.List.{AllByRecursion, position}
 use Rattle.std.proofs.lemmas.Bool.{false≢true}
@@ -14,12 +16,12 @@ use Rattle.bx_q931.specs.declared.channel_field.ChannelField.TheVariants.{Named,
 use Rattle.bx_base.specs.Bookings.{Row, row_at, AreBookings, Carries}
 use Rattle.bx_base.specs.Plans.{is_accepted, channel_at}
 use Rattle.bx_calls.specs.PlainCalls.{PlainNetCall}
-use Rattle.bx_calls.specs.Said.{Said, said_of}
+use Rattle.bx_calls.specs.Said.{Said, said_under}
 use Rattle.bx_calls.specs.Sending.{Sent, Answered}
 use Rattle.bx_calls.specs.NetTable.{net_second, net_unlinked, net_message}
 use Rattle.bx_calls.specs.declared.transition.Next.{Next}
 use Rattle.bx_calls.specs.declared.transition.Next.TheVariants.{Live, Over, Broken}
-use Rattle.bx_events.specs.Events.{Tick, Receive, LiveEvent, OnLink, WithoutLink, Sold}
+use Rattle.bx_events.specs.Events.{Tick, Receive, LiveEvent, OnLink, WithoutLink, Sold, HeardByRulesTwo}
 use Rattle.bx_day.specs.declared.entry.Activity.{Activity}
 use Rattle.bx_day.specs.declared.entry.Activity.TheVariants.{Never, Since, Was}
 use Rattle.bx_day.specs.declared.entry.Entry.{Entry}
@@ -161,19 +163,20 @@ received_lived : (d : Day) (sm : Said) (o : Option ℕ) → AllByRecursion (Entr
 received_lived d sm None f h = stray_lived d sm sm.heard.kind h
 received_lived d sm (Some i) f h = heard_lived sm d i f h
 
-from_lived : (d : Day) (pm : PlainMessage) (r : Reference) → AllByRecursion (EntryFits d.moment) d.entries → AllLived d → AllLived (receive_from d pm r).day
-from_lived d pm Dummy f h = h
-from_lived d pm (Value value flag) f h = by_cases (value == 0) _ _ (λ (x : Answered Day). AllLived x.day) (λ _. h) (λ _. received_lived d (said_of value flag pm) (position (names (said_of value flag pm)) d.entries) f h)
+from_lived : (u : Rules) (d : Day) (pm : PlainMessage) (r : Reference) → AllByRecursion (EntryFits d.moment) d.entries → AllLived d → AllLived (receive_from u d pm r).day
+from_lived u d pm Dummy f h = h
+from_lived u d pm (Value value flag) f h = by_cases (value == 0) _ _ (λ (x : Answered Day). AllLived x.day) (λ _. h) (λ _. received_lived d (said_under u value flag pm) (position (names (said_under u value flag pm)) d.entries) f h)
 
-read_lived : (d : Day) (r : Result PlainMessage MessageFault) → AllByRecursion (EntryFits d.moment) d.entries → AllLived d → AllLived (receive_read d r).day
-read_lived d (Err fault) f h = h
-read_lived d (Ok pm) f h = from_lived d pm pm.reference f h
+read_lived : (u : Rules) (d : Day) (r : Result PlainMessage MessageFault) → AllByRecursion (EntryFits d.moment) d.entries → AllLived d → AllLived (receive_read u d r).day
+read_lived u d (Err fault) f h = h
+read_lived u d (Ok pm) f h = from_lived u d pm pm.reference f h
 
 event_lived : (d : Day) (e : LiveEvent) → AllByRecursion (EntryFits d.moment) d.entries → AllLived d → AllLived (live_happens d e).day
 event_lived d (OnLink Tick) f h = by_cases (nat_le 300000 d.moment) _ _ (λ (x : Sent Day). AllLived x.day) (λ _. h) (λ _. seconds_lived Up d d.entries f h)
-event_lived d (OnLink (Receive octets)) f h = read_lived d (message_at octets) f h
+event_lived d (OnLink (Receive octets)) f h = read_lived Three d (message_at octets) f h
 event_lived d WithoutLink f h = by_cases (nat_le 300000 d.moment) _ _ AllLived (λ _. h) (λ _. seconds_lived Down d d.entries f h)
 event_lived d (Sold booking) f h = h
+event_lived d (HeardByRulesTwo octets) f h = read_lived Two d (message_at octets) f h
 
 run_lived : (rows : List Row) (assigned : List (Option ℕ)) (events : List LiveEvent) (d : Day) → RunFits rows assigned d → AllLived d → AllLived (live_day_after events d)
 run_lived rows assigned [] d f h = h

@@ -1,4 +1,5 @@
 -- What a message does to a day is what the definition says, and a day stays one that an exchange may be in.
+use Rattle.bx_calls.specs.declared.rules.Rules.TheVariants.{Three}
 use Rattle.std.proofs.Common.{◌≡◌, ℕ, zero, suc, ◌+◌, ◌≤◌, ◌<◌, ◌==◌, ◌&&◌, ◌||◌, not, Bool, true, false, List, [], ◌∷◌, length, Option, Some, None, arith, refl, sym, subst, ap, ◌∙◌, slice_set, nat_le, nat_lt, ◌≢◌, inl, inr, if◌then◌else◌}
 use Rattle.std.specs.Prelude.{is_some, IfSome}
 use Rattle.std.specs.List.{position}
@@ -58,7 +59,7 @@ row_whole c m t a Inward Active ConnectAcknowledge e = rw e refl
 row_whole c m t a o s k e = refl
 
 pub hears_whole : (m : Said) (t : ℕ) (s : Standing) → (hears m t s).broken ≡ false
-hears_whole m t (OnCall c a) = heard_by (Whole a t) c m.heard t c.state m.heard.kind (record { contradicted = λ asked due is q. refl; unacknowledged = λ asked due is q. refl; connected = λ due is q. refl; put_off = λ offer due is q. refl }) (row_whole (net_awake c) m.heard t a c.origin (net_awake_state c.state) m.heard.kind refl)
+hears_whole m t (OnCall c a) = heard_by (Whole a t) c m.heard t c.state m.heard.kind (record { contradicted = λ asked due is q. refl; unacknowledged = λ asked due is q. refl; connected = λ due is q. refl; put_off = λ offer due is q. refl; unconnected = λ asked due is q. refl; ringing = λ due is q. refl }) (row_whole (net_awake c) m.heard t a c.origin (net_awake_state c.state) m.heard.kind refl)
 hears_whole m t s = refl
 
 -- ---- who may be called
@@ -206,5 +207,5 @@ heard_exchange d m i h = moved_exchange d i (hears m d.moment (entry_at d.entrie
 -- an inward booking of this channel, called with this reference
 pub takes_exchange : (d : Day) (reference i : ℕ) → is_open d (entry_at d.entries i) ≡ true → IsExchange d → IsExchange (with_moved d i (becomes (OnCall (net_answered reference (entry_at d.entries i).channel) Never) None)).day
 takes_exchange d reference i opened h =
-    let m : Said = record { reference = reference; flag = false; heard = record { kind = Setup; channel = Absent; cause = None; state = None }; refused = None } in
+    let m : Said = record { reference = reference; flag = false; heard = record { kind = Setup; channel = Absent; cause = None; state = None; rules = Three }; refused = None } in
     moved_exchange d i (takes_call m (entry_at d.entries i)) (takes_fits d m 44 (Some i) opened h.day) (λ _. (open_parts d (entry_at d.entries i) opened).accepted) h

@@ -1,4 +1,6 @@
 -- What is sent is in its time: SETUP and CALL PROCEEDING only for an accepted booking that runs.
+use Rattle.bx_calls.specs.declared.rules.Rules.TheVariants.{Two, Three}
+use Rattle.bx_calls.specs.declared.rules.Rules.{Rules}
 use Rattle.std.proofs.Common.{◌≡◌, ℕ, suc, ◌+◌, ◌-◌, ◌≤◌, ◌<◌, not, Bool, true, false, List, [], ◌∷◌, Option, Some, None, arith, refl, sym, subst, ap, ◌∙◌, nat_le, if◌then◌else◌, ◌==◌, Result, Ok, Err}
 use Rattle.std.specs.List.{AllByRecursion, position}
 use Rattle.std.proofs.lemmas.Bool.{false≢true, true≢false, and_from, le-leb, lt-ltb, leb-false}
@@ -33,13 +35,13 @@ use Rattle.bx_q931.specs.declared.channel_field.ChannelField.{ChannelField}
 use Rattle.bx_q931.specs.declared.channel_field.ChannelField.TheVariants.{Named, Unread}
 use Rattle.bx_calls.specs.UnknownTable.{unknown_row, unknown_status}
 use Rattle.bx_calls.specs.declared.unknown_reference.Side.TheVariants.{Network}
-use Rattle.bx_calls.specs.Said.{Said, said_of}
+use Rattle.bx_calls.specs.Said.{Said, said_under}
 use Rattle.bx_day.specs.Day.{is_back, Day, entry_at, is_free, every_channel}
 use Rattle.bx_day.specs.Ticks.{waits, second_at, tick, second_in}
 use Rattle.bx_day.specs.Receipts.{opens, lowest_open, names, hears, takes_or, takes_preferred, called_on, called, stray, received_at}
 use Rattle.bx_day.specs.Moves.{follow}
 use Rattle.bx_calls.specs.Sending.{Sent, Answered, reply_list}
-use Rattle.bx_events.specs.Events.{Event, Tick, Receive, LiveEvent, OnLink}
+use Rattle.bx_events.specs.Events.{Event, Tick, Receive, LiveEvent, OnLink, HeardByRulesTwo}
 use Rattle.bx_day.specs.Outages.{live_happens}
 use Rattle.bx_day.specs.Run.{receive_from, receive_read, happens}
 use Rattle.bx_day.specs.declared.entry.Standing.{Standing}
@@ -152,7 +154,7 @@ row_plain r ch o t m s k = refl
 
 pub heard_plain : (r ch : ℕ) (o : NetOrigin) (t : ℕ) (m : Heard) (s : NetState) (k : Kind) → OfSaid Plain (net_heard (call_of r ch o s) m t s k).reply
 heard_plain r ch o t m s k = heard_by (λ (x : Transition PlainNetCall). OfSaid Plain x.reply) (call_of r ch o s) m t s k
-    (record { contradicted = λ asked due is q. releases_plain (call_of r ch o s) Once (Some 101) t; unacknowledged = λ asked due is q. refl; connected = λ due is q. refl; put_off = λ offer due is q. tt }) (row_plain r ch o t m (net_awake_state s) k)
+    (record { contradicted = λ asked due is q. releases_plain (call_of r ch o s) Once (Some 101) t; unacknowledged = λ asked due is q. refl; connected = λ due is q. refl; put_off = λ offer due is q. tt; unconnected = λ asked due is q. refl; ringing = λ due is q. tt }) (row_plain r ch o t m (net_awake_state s) k)
 
 -- what a second makes a call say: SETUP again, of an outward call, or neither
 abbrev SecondFits : List Row → List (Option ℕ) → ℕ → ℕ → PlainNetCall → Type 0
@@ -295,13 +297,13 @@ received_said : (rows : List Row) (assigned : List (Option ℕ)) (d : Day) (m : 
 received_said rows assigned d m None p = stray_said rows assigned d m m.heard.kind p
 received_said rows assigned d m (Some i) p = plain_said rows assigned d.moment (hears m d.moment (entry_at d.entries i).standing).said (hears_plain m d.moment (entry_at d.entries i).standing)
 
-from_said : (rows : List Row) (assigned : List (Option ℕ)) (d : Day) (m : PlainMessage) (r : Reference) → AllByRecursion (Placed rows assigned) d.entries → ReplyFits rows assigned (receive_from d m r)
-from_said rows assigned d m Dummy p = tt
-from_said rows assigned d m (Value value flag) p = by_cases (value == 0) _ _ (λ (x : Answered Day). ReplyFits rows assigned x) (λ _. tt) (λ _. received_said rows assigned d (said_of value flag m) (position (names (said_of value flag m)) d.entries) p)
+from_said : (u : Rules) (rows : List Row) (assigned : List (Option ℕ)) (d : Day) (m : PlainMessage) (r : Reference) → AllByRecursion (Placed rows assigned) d.entries → ReplyFits rows assigned (receive_from u d m r)
+from_said u rows assigned d m Dummy p = tt
+from_said u rows assigned d m (Value value flag) p = by_cases (value == 0) _ _ (λ (x : Answered Day). ReplyFits rows assigned x) (λ _. tt) (λ _. received_said rows assigned d (said_under u value flag m) (position (names (said_under u value flag m)) d.entries) p)
 
-read_said : (rows : List Row) (assigned : List (Option ℕ)) (d : Day) (r : Result PlainMessage MessageFault) → AllByRecursion (Placed rows assigned) d.entries → ReplyFits rows assigned (receive_read d r)
-read_said rows assigned d (Err fault) p = tt
-read_said rows assigned d (Ok m) p = from_said rows assigned d m m.reference p
+read_said : (u : Rules) (rows : List Row) (assigned : List (Option ℕ)) (d : Day) (r : Result PlainMessage MessageFault) → AllByRecursion (Placed rows assigned) d.entries → ReplyFits rows assigned (receive_read u d r)
+read_said u rows assigned d (Err fault) p = tt
+read_said u rows assigned d (Ok m) p = from_said u rows assigned d m m.reference p
 
 -- every event
 all_of : (P : Outgoing → Type 0) (os : List Outgoing) → AllByRecursion P os → All P os
@@ -312,12 +314,17 @@ reply_of : (P : Outgoing → Type 0) (o : Option Outgoing) → OfSaid P o → Al
 reply_of P None h = All-nil P
 reply_of P (Some o) h = All-cons P o [] h (All-nil P)
 
+hears_fits : (u : Rules) (rows : List Row) (assigned : List (Option ℕ)) (d : Day) (octets : List ℕ) → AllByRecursion (Placed rows assigned) d.entries → SentFits rows assigned (record { day = (receive_read u d (message_at octets)).day; sent = reply_list (receive_read u d (message_at octets)).reply })
+hears_fits u rows assigned d octets p =
+    let x = receive_read u d (message_at octets) in
+    record { each = reply_of (OutFits rows assigned x.day.moment) x.reply (read_said u rows assigned d (message_at octets) p) }
+
 pub sent_fits : (rows : List Row) (assigned : List (Option ℕ)) (d : Day) (event : Event) → AllByRecursion (Placed rows assigned) d.entries → DayFits d → SentFits rows assigned (happens d event)
 sent_fits rows assigned d Tick p h = record { each = all_of _ (tick d).sent (tick_said rows assigned d p h) }
 sent_fits rows assigned d (Receive octets) p h =
-    let x = receive_read d (message_at octets) in
-    record { each = reply_of (OutFits rows assigned x.day.moment) x.reply (read_said rows assigned d (message_at octets) p) }
+    hears_fits Three rows assigned d octets p
 
 pub live_sent : (rows : List Row) (assigned : List (Option ℕ)) (d : Day) (event : LiveEvent) → AllByRecursion (Placed rows assigned) d.entries → DayFits d → SentFits rows assigned (live_happens d event)
 live_sent rows assigned d (OnLink event) p h = sent_fits rows assigned d event p h
+live_sent rows assigned d (HeardByRulesTwo octets) p h = hears_fits Two rows assigned d octets p
 live_sent rows assigned d event p h = record { each = All-nil _ }

@@ -1,14 +1,16 @@
 -- A second without a link to the far end, as while its connection is lost or the program is down: time goes on, but no
 -- timer runs, nothing is offered and nothing is sent. A booking that ends clears its call for the first tick with a
 -- link. And the days of an exchange that goes through such seconds between its turns on the link.
--- That a booking is sold changes nothing of the day of the last plan, which has it from the morning on.
+-- That a booking is sold changes nothing of the day of the last plan, which has it from the morning on. What a journal of the rules 2
+-- heard is heard by these.
 use Rattle.std.specs.Prelude.{ℕ, ◌+◌, List, [], ◌∷◌, Bool, true, false, ◌&&◌, nat_le, nat_lt, if◌then◌else◌}
-use Rattle.bx_events.specs.Events.{Tick, Receive, LiveEvent, OnLink, WithoutLink, Sold}
-use Rattle.bx_calls.specs.Sending.{Sent}
+use Rattle.bx_events.specs.Events.{Tick, Receive, LiveEvent, OnLink, WithoutLink, Sold, HeardByRulesTwo}
 use Rattle.bx_day.specs.declared.entry.Link.TheVariants.{Down}
 use Rattle.bx_day.specs.Day.{Day}
 use Rattle.bx_day.specs.Ticks.{passed_in}
-use Rattle.bx_day.specs.Run.{happens}
+use Rattle.bx_calls.specs.Sending.{Sent, reply_list}
+use Rattle.bx_calls.specs.declared.rules.Rules.TheVariants.{Two}
+use Rattle.bx_day.specs.Run.{happens, receive_octets_by}
 use Rattle.bx_events.specs.declared.moment.TheConstants.{LAST_MOMENT}
 
 abbrev pub without_link : Day → Day
@@ -18,6 +20,8 @@ abbrev pub live_happens : Day → LiveEvent → Sent Day
 live_happens d (OnLink event) = happens d event
 live_happens d WithoutLink = record { day = without_link d; sent = [] }
 live_happens d (Sold booking) = record { day = d; sent = [] }
+live_happens d (HeardByRulesTwo octets) =
+    record { day = (receive_octets_by Two d octets).day; sent = reply_list (receive_octets_by Two d octets).reply }
 
 abbrev pub live_day_after : List LiveEvent → Day → Day
 live_day_after [] d = d
@@ -44,6 +48,7 @@ lost_by m d (OnLink Tick) x = record x { lasts = false }
 lost_by m d (OnLink (Receive octets)) x = x
 lost_by m d WithoutLink x = if nat_le m d.moment && nat_lt d.moment LAST_MOMENT then one_more x else x
 lost_by m d (Sold booking) x = x
+lost_by m d (HeardByRulesTwo octets) x = x
 
 abbrev pub lost_after : ℕ → List LiveEvent → Day → Lost → Lost
 lost_after m [] d x = x

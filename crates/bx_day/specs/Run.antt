@@ -6,24 +6,29 @@ use Rattle.bx_q931.specs.declared.fault.MessageFault.{MessageFault}
 use Rattle.bx_q931.specs.declared.reference.Reference.{Reference}
 use Rattle.bx_q931.specs.declared.reference.Reference.TheVariants.{Dummy, Value}
 use Rattle.bx_q931.specs.Outgoing.{Outgoing}
-use Rattle.bx_calls.specs.Said.{said_of}
+use Rattle.bx_calls.specs.Said.{said_under}
+use Rattle.bx_calls.specs.declared.rules.Rules.{Rules}
+use Rattle.bx_calls.specs.declared.rules.Rules.TheVariants.{Three}
 use Rattle.bx_day.specs.Day.{Day}
 use Rattle.bx_day.specs.Ticks.{tick}
 use Rattle.bx_day.specs.Receipts.{receive}
 use Rattle.bx_calls.specs.Sending.{Sent, Answered, unchanged, reply_list}
 
 -- a message that was read; the dummy and the global reference are ignored
-abbrev pub receive_from : Day → PlainMessage → Reference → Answered Day
-receive_from d m Dummy = unchanged d None
-receive_from d m (Value value flag) = if value == 0 then unchanged d None else receive d (said_of value flag m)
+abbrev pub receive_from : Rules → Day → PlainMessage → Reference → Answered Day
+receive_from rules d m Dummy = unchanged d None
+receive_from rules d m (Value value flag) = if value == 0 then unchanged d None else receive d (said_under rules value flag m)
 
-abbrev pub receive_read : Day → Result PlainMessage MessageFault → Answered Day
-receive_read d (Err fault) = unchanged d None
-receive_read d (Ok m) = receive_from d m m.reference
+abbrev pub receive_read : Rules → Day → Result PlainMessage MessageFault → Answered Day
+receive_read rules d (Err fault) = unchanged d None
+receive_read rules d (Ok m) = receive_from rules d m m.reference
 
 -- any octets
+abbrev pub receive_octets_by : Rules → Day → List ℕ → Answered Day
+receive_octets_by rules d octets = receive_read rules d (message_at octets)
+
 abbrev pub receive_octets : Day → List ℕ → Answered Day
-receive_octets d octets = receive_read d (message_at octets)
+receive_octets d octets = receive_octets_by Three d octets
 
 abbrev pub happens : Day → Event → Sent Day
 happens d Tick = tick d

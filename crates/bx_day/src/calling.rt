@@ -5,7 +5,8 @@ ghost use Rattle.std.specs.List.{list_any, position};
 ghost use Rattle.bx_channels.specs.ChannelNumbers.{IsChannel};
 ghost use Rattle.bx_q931.specs.Messages.{PlainMessage};
 ghost use Rattle.bx_q931.specs.Outgoing.{IsCallReference};
-ghost use Rattle.bx_calls.specs.Said.{said_of};
+ghost use Rattle.bx_calls.specs.Said.{said_under};
+ghost use Rattle.bx_calls.specs.declared.rules.Rules.{Rules};
 ghost use Rattle.bx_channels.specs.Marks.{is_marked};
 ghost use Rattle.bx_day.specs.Day.{is_free, entry_at, every_channel};
 ghost use Rattle.bx_day.specs.Receipts.{is_open, opens, lowest_open, or_else, takes_or, called_on, called};
@@ -23,8 +24,8 @@ impl Exchange {
     /// A SETUP of the far end: its bearer capability is looked at first, and then its channel.
     pub(crate) fn called(&mut self, reference: u16, message: &Message<'_>) -> Option<Out>
         requires { IsCallReference reference }
-        ensures day { (flag : Bool) → let m = said_of reference flag message.now in self.new ≡ (called self.old m m.refused).day }
-        ensures reply { (flag : Bool) → let m = said_of reference flag message.now in result ≡ (called self.old m m.refused).reply }
+        ensures day { (rules : Rules) (flag : Bool) → let m = said_under rules reference flag message.now in self.new ≡ (called self.old m m.refused).day }
+        ensures reply { (rules : Rules) (flag : Bool) → let m = said_under rules reference flag message.now in result ≡ (called self.old m m.refused).reply }
     {
         if let Some(cause) = bearer_fault(message) {
             return Some(refuse(Side::Network, reference, cause));
@@ -34,8 +35,8 @@ impl Exchange {
 
     fn called_on(&mut self, reference: u16, field: ChannelField) -> Option<Out>
         requires { IsCallReference reference }
-        ensures day { (flag : Bool) (m : PlainMessage) → self.new ≡ (called_on self.old (said_of reference flag m) field).day }
-        ensures reply { (flag : Bool) (m : PlainMessage) → result ≡ (called_on self.old (said_of reference flag m) field).reply }
+        ensures day { (rules : Rules) (flag : Bool) (m : PlainMessage) → self.new ≡ (called_on self.old (said_under rules reference flag m) field).day }
+        ensures reply { (rules : Rules) (flag : Bool) (m : PlainMessage) → result ≡ (called_on self.old (said_under rules reference flag m) field).reply }
     {
         match field {
             ChannelField::Unread => {
@@ -54,8 +55,8 @@ impl Exchange {
     /// An exclusive channel is taken or no other; a preferred one where it is open, and else the lowest.
     fn called_at(&mut self, reference: u16, channel: Channel, exclusive: bool) -> Option<Out>
         requires { IsCallReference reference }
-        ensures day { (flag : Bool) (m : PlainMessage) → self.new ≡ (called_for self.old (said_of reference flag m) channel exclusive).day }
-        ensures reply { (flag : Bool) (m : PlainMessage) → result ≡ (called_for self.old (said_of reference flag m) channel exclusive).reply }
+        ensures day { (rules : Rules) (flag : Bool) (m : PlainMessage) → self.new ≡ (called_for self.old (said_under rules reference flag m) channel exclusive).day }
+        ensures reply { (rules : Rules) (flag : Bool) (m : PlainMessage) → result ≡ (called_for self.old (said_under rules reference flag m) channel exclusive).reply }
     {
         if exclusive {
             let index = self.open_on(channel);
@@ -71,8 +72,8 @@ impl Exchange {
         requires limit { IsCallReference reference }
         requires inside { IfSome index (λ i. i < length self.old.entries) }
         requires open { IfSome index (λ i. is_open self.old (entry_at self.old.entries i) ≡ true) }
-        ensures day { (flag : Bool) (m : PlainMessage) → self.new ≡ (takes_or self.old (said_of reference flag m) cause index).day }
-        ensures reply { (flag : Bool) (m : PlainMessage) → result ≡ (takes_or self.old (said_of reference flag m) cause index).reply }
+        ensures day { (rules : Rules) (flag : Bool) (m : PlainMessage) → self.new ≡ (takes_or self.old (said_under rules reference flag m) cause index).day }
+        ensures reply { (rules : Rules) (flag : Bool) (m : PlainMessage) → result ≡ (takes_or self.old (said_under rules reference flag m) cause index).reply }
     {
         let Some(index) = index else {
             return Some(refuse(Side::Network, reference, cause));

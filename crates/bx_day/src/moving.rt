@@ -6,10 +6,10 @@ ghost use Rattle.bx_day.specs.Ticks.{second_at, second_by, unlinked_at};
 ghost use Rattle.bx_day.specs.Outlasting.{IfTimersFit};
 ghost use Rattle.bx_day.specs.Receipts.{hears};
 ghost use Rattle.bx_day.specs.Moves.{activity_after, over_at, follows};
-ghost use Rattle.bx_calls.specs.Said.{said_of};
+ghost use Rattle.bx_calls.specs.Said.{said_under};
 
 use crate::entry::{Activity, Entry, Link, Moved, Standing};
-use bx_calls::{CallState, NetCall, Next, Transition};
+use bx_calls::{CallState, NetCall, Next, Rules, Transition};
 use bx_channels::Channel;
 use bx_events::LAST_MOMENT;
 use bx_q931::Message;
@@ -71,13 +71,13 @@ pub(crate) fn follow(step: Transition<NetCall>, activity: Activity, moment: u32)
 }
 
 /// A live booking at a message of its call, whose reference and flag were compared before.
-pub(crate) fn heard(standing: Standing, message: &Message<'_>, moment: u32) -> Moved
+pub(crate) fn heard(standing: Standing, message: &Message<'_>, rules: Rules, moment: u32) -> Moved
     requires { moment ≤ LAST_MOMENT }
-    ensures { (reference : ℕ) (flag : Bool) → result ≡ hears (said_of reference flag message.now) moment standing }
+    ensures { (reference : ℕ) (flag : Bool) → result ≡ hears (said_under rules reference flag message.now) moment standing }
 {
     match standing {
         Standing::OnCall { call, activity } => {
-            follow(call.on_message(message, moment), activity, moment)
+            follow(call.on_message(message, rules, moment), activity, moment)
         }
         standing => Moved {
             standing,

@@ -5,18 +5,19 @@ ghost use Rattle.std.specs.List.{position};
 ghost use Rattle.bx_base.specs.declared.bookings.TheConstants.{MAX_BOOKINGS};
 ghost use Rattle.bx_q931.specs.Messages.{PlainMessage};
 ghost use Rattle.bx_q931.specs.Outgoing.{IsCallReference, out_octets};
-ghost use Rattle.bx_calls.specs.Said.{said_of};
+ghost use Rattle.bx_calls.specs.Said.{said_under};
+ghost use Rattle.bx_calls.specs.declared.rules.Rules.TheVariants.{Two};
 ghost use Rattle.bx_day.specs.Day.{is_live, is_unoffered, entry_at};
 ghost use Rattle.bx_day.specs.Receipts.{names, with_moved, received_at, stray, receive, is_open};
 ghost use Rattle.bx_day.specs.SlotSteps.{earlier};
-ghost use Rattle.bx_day.specs.Run.{receive_from, receive_octets};
+ghost use Rattle.bx_day.specs.Run.{receive_from, receive_octets, receive_octets_by};
 ghost use Rattle.bx_day.specs.Invariant.{is_refused};
 ghost use Rattle.bx_day.specs.Reading.{IsExchange};
 
 use crate::entry::{Entry, Moved, Standing};
 use crate::exchange::Exchange;
 use crate::moving::heard;
-use bx_calls::{Side, unknown};
+use bx_calls::{Rules, Side, unknown};
 use bx_q931::{Kind, Message, Octets, Out, Reference, encode, read};
 
 impl Exchange {
@@ -30,39 +31,60 @@ impl Exchange {
         ensures day { self.new ≡ (receive_octets self.old octets.now).day }
         ensures reply { option_map (λ o. o.items) result ≡ option_map out_octets (receive_octets self.old octets.now).reply }
     {
+        self.receive_by(octets, Rules::Three)
+    }
+
+    /// The same by the rules 2, as a journal of these is followed.
+    pub fn receive_by_rules_two(&mut self, octets: &[u8]) -> Option<Octets>
+        ensures day { self.new ≡ (receive_octets_by Two self.old octets.now).day }
+        ensures reply { option_map (λ o. o.items) result ≡ option_map out_octets (receive_octets_by Two self.old octets.now).reply }
+    {
+        self.receive_by(octets, Rules::Two)
+    }
+
+    fn receive_by(&mut self, octets: &[u8], rules: Rules) -> Option<Octets>
+        ensures day { self.new ≡ (receive_octets_by rules self.old octets.now).day }
+        ensures reply { option_map (λ o. o.items) result ≡ option_map out_octets (receive_octets_by rules self.old octets.now).reply }
+    {
         let Ok(message) = read(octets) else {
             return None;
         };
-        let reply = self.receive_message(&message)?;
+        let reply = self.receive_message(&message, rules)?;
         Some(encode(&reply))
     }
 
     /// Hears a message that was read.
-    fn receive_message(&mut self, message: &Message<'_>) -> Option<Out>
-        ensures day { self.new ≡ (receive_from self.old message.now message.now.reference).day }
-        ensures reply { result ≡ (receive_from self.old message.now message.now.reference).reply }
+    fn receive_message(&mut self, message: &Message<'_>, rules: Rules) -> Option<Out>
+        ensures day { self.new ≡ (receive_from rules self.old message.now message.now.reference).day }
+        ensures reply { result ≡ (receive_from rules self.old message.now message.now.reference).reply }
     {
         match message.reference() {
             Reference::Dummy | Reference::Value { value: 0, .. } => None,
-            Reference::Value { value, flag } => self.receive_call(value, flag, message),
+            Reference::Value { value, flag } => self.receive_call(value, flag, message, rules),
         }
     }
 
-    fn receive_call(&mut self, reference: u16, flag: bool, message: &Message<'_>) -> Option<Out>
+    fn receive_call(
+        &mut self,
+        reference: u16,
+        flag: bool,
+        message: &Message<'_>,
+        rules: Rules,
+    ) -> Option<Out>
         requires limit { IsCallReference reference }
         requires same { message.now.reference ≡ Reference.Value reference flag }
-        ensures day { self.new ≡ (receive self.old (said_of reference flag message.now)).day }
-        ensures reply { result ≡ (receive self.old (said_of reference flag message.now)).reply }
+        ensures day { self.new ≡ (receive self.old (said_under rules reference flag message.now)).day }
+        ensures reply { result ≡ (receive self.old (said_under rules reference flag message.now)).reply }
     {
         match self.named(reference, flag) {
-            Some(index) => self.follow(index, message),
+            Some(index) => self.follow(index, message, rules),
             None => self.stray(reference, flag, message),
         }
     }
 
     /// The index of the live booking whose call has this reference, and sends with the other flag.
     fn named(&self, reference: u16, flag: bool) -> Option<usize>
-        ensures first { (m : PlainMessage) → result ≡ position (names (said_of reference flag m)) self.now.entries }
+        ensures first { (rules : Rules) (m : PlainMessage) → result ≡ position (names (said_under rules reference flag m)) self.now.entries }
         ensures inside { IfSome result (λ i. i < length self.now.entries) }
     {
         let mut first = None;
@@ -77,14 +99,14 @@ impl Exchange {
     }
 
     /// The live booking of this index hears a message of its call.
-    fn follow(&mut self, index: usize, message: &Message<'_>) -> Option<Out>
+    fn follow(&mut self, index: usize, message: &Message<'_>, rules: Rules) -> Option<Out>
         requires inside { index < length self.old.entries }
         requires live { is_live (entry_at self.old.entries index).standing ≡ true }
-        ensures day { (reference : ℕ) (flag : Bool) → self.new ≡ (received_at self.old (said_of reference flag message.now) (Some index)).day }
-        ensures reply { (reference : ℕ) (flag : Bool) → result ≡ (received_at self.old (said_of reference flag message.now) (Some index)).reply }
+        ensures day { (reference : ℕ) (flag : Bool) → self.new ≡ (received_at self.old (said_under rules reference flag message.now) (Some index)).day }
+        ensures reply { (reference : ℕ) (flag : Bool) → result ≡ (received_at self.old (said_under rules reference flag message.now) (Some index)).reply }
     {
         let moment = self.moment();
-        let moved = heard(self.entries[index].standing, message, moment);
+        let moved = heard(self.entries[index].standing, message, rules, moment);
         self.put(index, moved)
     }
 
@@ -117,8 +139,8 @@ impl Exchange {
     fn stray(&mut self, reference: u16, flag: bool, message: &Message<'_>) -> Option<Out>
         requires limit { IsCallReference reference }
         requires same { message.now.reference ≡ Reference.Value reference flag }
-        ensures day { self.new ≡ (stray self.old (said_of reference flag message.now) message.now.kind).day }
-        ensures reply { result ≡ (stray self.old (said_of reference flag message.now) message.now.kind).reply }
+        ensures day { (rules : Rules) → self.new ≡ (stray self.old (said_under rules reference flag message.now) message.now.kind).day }
+        ensures reply { (rules : Rules) → result ≡ (stray self.old (said_under rules reference flag message.now) message.now.kind).reply }
     {
         match message.kind() {
             Kind::Setup if flag => None,
@@ -161,7 +183,7 @@ fn earlier(first: Option<usize>, index: usize) -> usize
 
 /// Whether the booking is live, and its call has this reference and sends with the other flag.
 fn is_named(entry: &Entry, reference: u16, flag: bool) -> bool
-    ensures { (m : PlainMessage) → result ≡ names (said_of reference flag m) entry.now }
+    ensures { (rules : Rules) (m : PlainMessage) → result ≡ names (said_under rules reference flag m) entry.now }
 {
     match entry.standing {
         Standing::OnCall { call, .. } => call.reference() == reference && call.flag() == !flag,

@@ -1,6 +1,6 @@
 use Rattle.std.proofs.Common.{◌≡◌, ◌<◌, ◌∙◌, true, false, ℕ, sym, subst, ap, length}
 use Rattle.std.proofs.lemmas.List.{get_or_default}
-use Rattle.bx_calls.specs.Said.{said_of}
+use Rattle.bx_calls.specs.Said.{said_under}
 use Rattle.bx_day.specs.Day.{Day, is_live, is_unoffered, entry_at, no_entry}
 use Rattle.bx_day.specs.Receipts.{hears, with_moved}
 use Rattle.bx_day.specs.declared.entry.Entry.{Entry}
@@ -12,13 +12,13 @@ use Rattle.bx_day.proofs.PutLemmas.{heard_begun, heard_accepted, live_turned}
 use Rattle.bx_day.proofs.exchange.Exchange.follow.Goals as goal
 
 pub put-requires-clause-whole : goal.put-requires-clause-whole
-put-requires-clause-whole c = subst (λ (m : Moved). m.broken ≡ false) (sym (c.heard-moved.ensures 1 true)) (hears_whole (said_of 1 true c.args.message.now) c.moment-moment.result c.index.result.now.standing)
+put-requires-clause-whole c = subst (λ (m : Moved). m.broken ≡ false) (sym (c.heard-moved.ensures 1 true)) (hears_whole (said_under c.args.rules 1 true c.args.message.now) c.moment-moment.result c.index.result.now.standing)
 
 pub put-requires-clause-exchange : goal.put-requires-clause-exchange
 put-requires-clause-exchange c =
     let d = c.args.self.now in
     let i = c.args.index in
-    let m = said_of 1 true c.args.message.now in
+    let m = said_under c.args.rules 1 true c.args.message.now in
     let es = c.self.inside.entries.items in
     let entries : es ≡ d.entries = ap (λ (x : Day). x.entries) c.self.view_is in
     let lt : i < length es = subst (λ (xs : _). i < length xs) (sym entries) c.requires.inside in
@@ -38,7 +38,7 @@ put-requires-clause-begun c =
     let lt : i < length es = subst (λ (xs : _). i < length xs) (sym entries) c.requires.inside in
     let item : c.index.result.now ≡ entry_at d.entries i = c.index.ensures ∙ get_or_default es i c.index.result.now no_entry lt ∙ ap (λ (xs : _). entry_at xs i) entries in
     let live : is_live c.index.result.now.standing ≡ true = ap (λ (e : Entry). is_live e.standing) item ∙ c.requires.live in
-    ap (λ (m : Moved). is_unoffered m.standing) (c.heard-moved.ensures 1 true) ∙ heard_begun (said_of 1 true c.args.message.now) c.moment-moment.result c.index.result.now.standing live
+    ap (λ (m : Moved). is_unoffered m.standing) (c.heard-moved.ensures 1 true) ∙ heard_begun (said_under c.args.rules 1 true c.args.message.now) c.moment-moment.result c.index.result.now.standing live
 
 pub put-requires-clause-accepted : goal.put-requires-clause-accepted
 put-requires-clause-accepted c =
@@ -49,4 +49,4 @@ put-requires-clause-accepted c =
     let lt : i < length es = subst (λ (xs : _). i < length xs) (sym entries) c.requires.inside in
     let item : c.index.result.now ≡ entry_at d.entries i = c.index.ensures ∙ get_or_default es i c.index.result.now no_entry lt ∙ ap (λ (xs : _). entry_at xs i) entries in
     let live : is_live c.index.result.now.standing ≡ true = ap (λ (e : Entry). is_live e.standing) item ∙ c.requires.live in
-    ap (λ (m : Moved). is_refused m.standing) (c.heard-moved.ensures 1 true) ∙ heard_accepted (said_of 1 true c.args.message.now) c.moment-moment.result c.index.result.now.standing live
+    ap (λ (m : Moved). is_refused m.standing) (c.heard-moved.ensures 1 true) ∙ heard_accepted (said_under c.args.rules 1 true c.args.message.now) c.moment-moment.result c.index.result.now.standing live

@@ -1,7 +1,8 @@
 use Rattle.std.proofs.Common.{◌≡◌, ◌<◌, ◌≤◌, ◌+◌, List, Some, None, true, false, sym, subst, ap, ◌∙◌, length, arith, []}
 use Rattle.std.proofs.lemmas.Bool.{false_from_ne_true, true≢false, false≢true}
 use Rattle.std.specs.Prelude.{is_some}
-use Rattle.bx_calls.specs.Said.{said_of}
+use Rattle.bx_calls.specs.Said.{said_under}
+use Rattle.bx_calls.specs.declared.rules.Rules.TheVariants.{Three}
 use Rattle.bx_q931.specs.Messages.{PlainMessage, plain_message}
 use Rattle.bx_q931.specs.declared.kind.Kind.TheVariants.{Setup}
 use Rattle.bx_q931.specs.declared.reference.Reference.TheVariants.{Dummy}
@@ -22,11 +23,11 @@ index-requires c =
     omega (arith, ((c.self.invariant.slots.lives n).there c.in-Some.index slot).0, x.entries.ok)
 
 pub loop-number-preserved : goal.loop-number-preserved
-loop-number-preserved c m =
+loop-number-preserved c u m =
     let d = c.args.self.now in
     let x = c.self.inside in
     let n = c.loop-number.number in
-    let s = said_of c.args.reference c.args.flag m in
+    let s = said_under u c.args.reference c.args.flag m in
     let test = names s in
     let lives : IsLiveOn d.entries n (slot_at x.live n) = subst (λ (y : Day). IsLiveOn y.entries n (slot_at x.live n)) c.self.view_is (c.self.invariant.slots.lives n) in
     let size : n < length x.live = omega (arith, c.self.invariant.slots.live_size, c.loop-number-test.true) in
@@ -37,37 +38,37 @@ loop-number-preserved c m =
           let slot : slot_at x.live n ≡ Some j = slot_is x.live n _ (Some j) size w.in-Some.is in
           let inside : j < length d.entries = (lives.there j slot).0 in
           let item : w.index.result.now ≡ entry_at d.entries j = entry_is x.entries.items d j w.index.result.now entries (subst (λ (es : List Entry). j < length es) (sym entries) inside) w.index.ensures in
-          let here : test (entry_at d.entries j) ≡ true = ap test (sym item) ∙ sym (w.is_named.ensures m) ∙ w.if-is_named.true in
+          let here : test (entry_at d.entries j) ≡ true = ap test (sym item) ∙ sym (w.is_named.ensures u m) ∙ w.if-is_named.true in
           subst (IsFirstBelow test d.entries (n + 1)) (sym (w.first-is ∙ ap (λ k. Some k) w.earlier.ensures))
-          (first_found test d.entries n j c.loop-number.first inside here (λ k lt on t. some_is k j (sym (named_there s d.entries n k (slot_at x.live n) lives lt on t) ∙ slot)) (c.loop-number.invariant m))
+          (first_found test d.entries n j c.loop-number.first inside here (λ k lt on t. some_is k j (sym (named_there s d.entries n k (slot_at x.live n) lives lt on t) ∙ slot)) (c.loop-number.invariant u m))
       | in-Some+else-is_named w ↦
           let j = w.in-Some.index in
           let slot : slot_at x.live n ≡ Some j = slot_is x.live n _ (Some j) size w.in-Some.is in
           let inside : j < length d.entries = (lives.there j slot).0 in
           let item : w.index.result.now ≡ entry_at d.entries j = entry_is x.entries.items d j w.index.result.now entries (subst (λ (es : List Entry). j < length es) (sym entries) inside) w.index.ensures in
-          let here : test (entry_at d.entries j) ≡ false = ap test (sym item) ∙ sym (w.is_named.ensures m) ∙ w.if-is_named.false in
+          let here : test (entry_at d.entries j) ≡ false = ap test (sym item) ∙ sym (w.is_named.ensures u m) ∙ w.if-is_named.false in
           subst (IsFirstBelow test d.entries (n + 1)) (sym w.first-is)
           (first_stays test d.entries n c.loop-number.first (λ k lt on. false_from_ne_true (test (entry_at d.entries k)) (λ t.
           let same : k ≡ j = some_is k j (sym (named_there s d.entries n k (slot_at x.live n) lives lt on t) ∙ slot) in
-          true≢false (sym t ∙ subst (λ i. test (entry_at d.entries i) ≡ false) (sym same) here))) (c.loop-number.invariant m))
+          true≢false (sym t ∙ subst (λ i. test (entry_at d.entries i) ≡ false) (sym same) here))) (c.loop-number.invariant u m))
       | in_default w ↦
           let slot : slot_at x.live n ≡ None = slot_none x.live n _ size w.in_default.not-Some in
           subst (IsFirstBelow test d.entries (n + 1)) (sym w.first-is)
           (first_stays test d.entries n c.loop-number.first (λ k lt on. false_from_ne_true (test (entry_at d.entries k)) (λ t.
-          false≢true (ap is_some (sym slot ∙ named_there s d.entries n k (slot_at x.live n) lives lt on t)))) (c.loop-number.invariant m))
+          false≢true (ap is_some (sym slot ∙ named_there s d.entries n k (slot_at x.live n) lives lt on t)))) (c.loop-number.invariant u m))
     ]
 
 pub returns-clause-first : goal.returns-clause-first
-returns-clause-first c m =
+returns-clause-first c u m =
     let d = c.args.self.now in
-    let s = said_of c.args.reference c.args.flag m in
+    let s = said_under u c.args.reference c.args.flag m in
     let h : IsExchange d = subst IsExchange c.self.view_is c.self.invariant.exchange in
     first_is (names s) d.entries c.loop-number.number c.loop-number.first (λ k lt t.
     let is = live_seated d k h lt (named_live s (entry_at d.entries k) t) in
     let high : (entry_at d.entries k).channel ≤ 31 = is.1 in
-    omega (arith, high, c.loop-number-test.false)) (c.loop-number.invariant m)
+    omega (arith, high, c.loop-number-test.false)) (c.loop-number.invariant u m)
 
 pub returns-clause-inside : goal.returns-clause-inside
 returns-clause-inside c =
     let m : PlainMessage = plain_message Dummy Setup [] in
-    first_inside (names (said_of c.args.reference c.args.flag m)) c.args.self.now.entries c.loop-number.number c.loop-number.first (c.loop-number.invariant m)
+    first_inside (names (said_under Three c.args.reference c.args.flag m)) c.args.self.now.entries c.loop-number.number c.loop-number.first (c.loop-number.invariant Three m)
