@@ -165,8 +165,8 @@ is_after_outage First = false
 is_after_outage Second = false
 is_after_outage _ = true
 
--- no SETUP is on its way: what the user says of a call that it lacks answers a STATUS ENQUIRY, the last one or, by the rules 3, one
--- before it
+-- SETUP goes out again only when the user has said more, or nothing: that it lacks the call answers a STATUS ENQUIRY, the last one or, by
+-- the rules 3, one before it
 abbrev pub awaits_word : Rules → Offer → Bool
 awaits_word rules Asked = true
 awaits_word rules Unlinked = is_by_three rules

@@ -267,7 +267,7 @@ fn rung(reported: Option<u8>, moment: u32) -> NetState
     }
 }
 
-/// Whether no SETUP of such an offer is on its way, so that the user, where it lacks the call, says so of a STATUS ENQUIRY.
+/// Whether SETUP waits for what the user says of a STATUS ENQUIRY, the last one or, by the rules 3, one before it.
 fn awaits_word(rules: Rules, offer: Offer) -> bool
     ensures { result ≡ awaits_word rules offer }
 {

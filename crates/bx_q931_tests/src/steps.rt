@@ -1,6 +1,6 @@
 //! The rows of worked calls, and calls that go by them.
 
-use bx_calls::{CallState, NetCall, Next, Transition, UserCall};
+use bx_calls::{CallState, NetCall, Next, Rules, Transition, UserCall};
 use bx_q931::{Out, encode, read};
 
 /// What is left of a call.
@@ -27,7 +27,7 @@ fn net_step(call: NetCall, end: u32, row: &Row) -> Option<Transition<NetCall>> {
     if row.1.is_empty() {
         Some(call.on_second(moment, end))
     } else {
-        Some(call.on_message(&read(row.1).ok()?, moment))
+        Some(call.on_message(&read(row.1).ok()?, Rules::Three, moment))
     }
 }
 
@@ -69,12 +69,18 @@ fn after_user_row(call: UserCall, row: &Row) -> Option<UserCall> {
     }
 }
 
-/// What is left of a call that is asked for after a second without a link, and hears this; None where something else is sent.
-pub(crate) fn after_report(call: NetCall, octets: &[u8], sent: &[u8]) -> Option<After> {
+/// What is left of a call that is asked for after a second without a link, and hears this by these rules; None where something else
+/// is sent.
+pub(crate) fn after_report(
+    call: NetCall,
+    octets: &[u8],
+    rules: Rules,
+    sent: &[u8],
+) -> Option<After> {
     let Next::Live(asked) = call.on_seconds_unlinked(1, 110, 200).next else {
         return None;
     };
-    let Transition { next, reply } = asked.on_message(&read(octets).ok()?, 111);
+    let Transition { next, reply } = asked.on_message(&read(octets).ok()?, rules, 111);
     if !says(reply, sent) {
         return None;
     }

@@ -8,7 +8,7 @@ use Rattle.bx_colour.proofs.FirstFitStays.{marked}
 use Rattle.bx_day.specs.Day.{Day, opening}
 use Rattle.bx_day.specs.Extended.{extended, IsExtendedBy}
 use Rattle.bx_day.specs.Outages.{live_happens, live_day_after}
-use Rattle.bx_events.specs.Events.{LiveEvent, OnLink, WithoutLink, Sold}
+use Rattle.bx_events.specs.Events.{LiveEvent, OnLink, WithoutLink, Sold, HeardByRulesTwo}
 use Rattle.bx_sales.proofs.ExtendedBy.{size, frame_at, goes_on}
 use Rattle.bx_sales.proofs.Fitting.{marked_so}
 use Rattle.bx_sales.proofs.Sales.{one_more, joined}
@@ -52,6 +52,8 @@ rows_sold channels row_on (OnLink event ∷ events) before rows assigned d now c
     rows_sold channels row_on events (before ++ OnLink event ∷ []) rows assigned (live_happens d (OnLink event)).day now count bookings carries (ap (λ (x : Day). (live_happens x (OnLink event)).day) is ∙ one_more before (OnLink event) (opening rows assigned)) through
 rows_sold channels row_on (WithoutLink ∷ events) before rows assigned d now count bookings carries is through =
     rows_sold channels row_on events (before ++ WithoutLink ∷ []) rows assigned (live_happens d WithoutLink).day now count bookings carries (ap (λ (x : Day). (live_happens x WithoutLink).day) is ∙ one_more before WithoutLink (opening rows assigned)) through
+rows_sold channels row_on (HeardByRulesTwo octets ∷ events) before rows assigned d now count bookings carries is through =
+    rows_sold channels row_on events (before ++ HeardByRulesTwo octets ∷ []) rows assigned (live_happens d (HeardByRulesTwo octets)).day now count bookings carries (ap (λ (x : Day). (live_happens x (HeardByRulesTwo octets)).day) is ∙ one_more before (HeardByRulesTwo octets) (opening rows assigned)) through
 rows_sold channels row_on (Sold line ∷ events) before rows assigned d now count bookings carries is through =
     let row = row_on line in
     let rest = sold_in row_on events in

@@ -5,7 +5,7 @@ use Rattle.bx_base.specs.Plans.{is_accepted, channel_at}
 use Rattle.bx_colour.specs.Colouring.{IsFirstFit}
 use Rattle.bx_day.specs.Day.{Day, opening}
 use Rattle.bx_day.specs.Outages.{live_happens, live_day_after}
-use Rattle.bx_events.specs.Events.{LiveEvent, OnLink, WithoutLink, Sold}
+use Rattle.bx_events.specs.Events.{LiveEvent, OnLink, WithoutLink, Sold, HeardByRulesTwo}
 use Rattle.bx_sales.specs.Selling.{rows_of, marks_of, IsSold}
 
 -- the bookings that were sold, by what their lines say
@@ -14,6 +14,7 @@ sold_in row_on [] = []
 sold_in row_on (Sold line ∷ events) = row_on line ∷ sold_in row_on events
 sold_in row_on (OnLink event ∷ events) = sold_in row_on events
 sold_in row_on (WithoutLink ∷ events) = sold_in row_on events
+sold_in row_on (HeardByRulesTwo octets ∷ events) = sold_in row_on events
 
 -- a day that goes through these, and goes on with a longer plan at each sale
 abbrev pub RunsThrough : List Bool → (List ℕ → Row) → List LiveEvent → Day → Day → Type 0
@@ -21,6 +22,7 @@ RunsThrough channels row_on [] old new = new ≡ old
 RunsThrough channels row_on (Sold line ∷ events) old new = (sold : Day) × IsSold channels (row_on line) old sold × RunsThrough channels row_on events sold new
 RunsThrough channels row_on (OnLink event ∷ events) old new = RunsThrough channels row_on events (live_happens old (OnLink event)).day new
 RunsThrough channels row_on (WithoutLink ∷ events) old new = RunsThrough channels row_on events (live_happens old WithoutLink).day new
+RunsThrough channels row_on (HeardByRulesTwo octets ∷ events) old new = RunsThrough channels row_on events (live_happens old (HeardByRulesTwo octets)).day new
 
 -- the plan of the morning with all that was sold, coloured once, has the day by just these events
 abbrev pub IsToldByJournal : Type 0

@@ -1,4 +1,5 @@
 -- A far end that answers by its messages answers each turn.
+use Rattle.bx_calls.specs.declared.rules.Rules.TheVariants.{Three}
 use Rattle.std.proofs.Common.{◌≡◌, ℕ, ◌==◌, ◌&&◌, ◌||◌, not, Bool, true, false, List, [], ◌∷◌, Option, Some, None, refl, sym, subst, ap, ◌∙◌, inl, inr, ◌⊎◌, if◌then◌else◌}
 use Rattle.std.specs.Prelude.{Result, Ok, Err}
 use Rattle.std.specs.List.{position}
@@ -11,7 +12,7 @@ use Rattle.bx_q931.specs.declared.kind.Kind.TheVariants.{Alerting, CallProceedin
 use Rattle.bx_q931.specs.declared.reference.Reference.{Reference}
 use Rattle.bx_q931.specs.declared.reference.Reference.TheVariants.{Dummy, Value}
 use Rattle.bx_calls.specs.Hearing.{Heard, names_channel, reports_null}
-use Rattle.bx_calls.specs.NetTable.{net_is_put_off, net_row, net_awake_state, net_flag, net_is_clearing}
+use Rattle.bx_calls.specs.NetTable.{net_is_put_off, net_row, net_awake_state, net_flag, net_is_clearing, awaits_word, net_rung, is_alerted, net_is_ringing, net_to}
 use Rattle.bx_calls.specs.PlainCalls.{PlainNetCall}
 use Rattle.bx_calls.specs.Said.{Said, said_of}
 use Rattle.bx_calls.specs.Shared.{bool_eq}
@@ -230,7 +231,7 @@ receive_said d (Some m) = receive d m
 said_day : (d : Day) (octets : List ℕ) → receive_octets d octets ≡ receive_said d (said_in_octets octets)
 said_day d octets = read (message_at octets)
   where
-    from : (m : PlainMessage) (r : Reference) → receive_from d m r ≡ receive_said d (said_by m r)
+    from : (m : PlainMessage) (r : Reference) → receive_from Three d m r ≡ receive_said d (said_by m r)
     from m Dummy = refl
     from m (Value value flag) = by_value (value == 0)
       where
@@ -238,7 +239,7 @@ said_day d octets = read (message_at octets)
         by_value true = refl
         by_value false = refl
 
-    read : (r : Result PlainMessage MessageFault) → receive_read d r ≡ receive_said d (said_read r)
+    read : (r : Result PlainMessage MessageFault) → receive_read Three d r ≡ receive_said d (said_read r)
     read (Err fault) = refl
     read (Ok m) = from m m.reference
 
@@ -373,10 +374,14 @@ pub not_going : (b : Bool) → not b ≡ true → b ≡ false
 not_going true x = absurd (false≢true x)
 not_going false x = refl
 
+and_last : (x y : Bool) → (x && y) ≡ true → y ≡ true
+and_last true y q = q
+and_last false y q = absurd (false≢true q)
+
 -- what puts an offer off clears a call that goes on
 pub put_off_clears : (ch : ℕ) (s : NetState) (m : Heard) (k : Kind) → net_is_put_off s m k ≡ true → clears_by ch m k ≡ true
 put_off_clears ch (CallPresent offer due) m ReleaseComplete q = refl
-put_off_clears ch (CallPresent offers.Asked due) m Status q = q
+put_off_clears ch (CallPresent offer due) m Status q = and_last (awaits_word m.rules offer) (reports_null m.state) q
 put_off_clears ch (CallPresent offer due) m k q = absurd (false≢true q)
 put_off_clears ch s m k q = absurd (false≢true q)
 
@@ -388,9 +393,21 @@ up_hears t e m (OnCall c a) fits spared h = heard_by (λ (x : Transition PlainNe
       unacknowledged = λ asked due is q. absurd (false≢true (subst (λ (s : NetState). is_settled_in s c.origin ≡ true) is h));
       connected = λ due is q. absurd (false≢true (subst (λ (s : NetState). is_settled_in s c.origin ≡ true) is h));
       put_off = λ offer due is q. absurd (false≢true (subst (λ (s : NetState). is_settled_in s c.origin ≡ true) is h));
+      unconnected = λ asked due is q. absurd (false≢true (subst (λ (s : NetState). is_settled_in s c.origin ≡ true) is h));
+      ringing = λ due is q. absurd (false≢true (subst (λ (s : NetState). is_settled_in s c.origin ≡ true) is h));
     })
     (up_row c.reference c.channel c.origin (net_awake_state c.state) a m.heard t m.heard.kind (awake_settled c.state c.origin h) (subst (λ ch. clears_by ch m.heard m.heard.kind ≡ false) (sym fits.channel) spared))
 up_hears t e m s fits spared h = absurd (false≢true h)
+
+-- it reports in N6, asked, that it has not answered yet
+rung_at : (r ch : ℕ) (o : NetOrigin) (a : Activity) (m : Heard) (t due : ℕ) (k : Kind) → net_is_ringing (CallPresent offers.Asked due) m k ≡ true → GoesOn r o (CallPresent offers.Asked due) k (follows a t (net_to (call_of r ch o (CallPresent offers.Asked due)) None (net_rung t m.state))).standing
+rung_at r ch o a m t due Status q = by_cases (is_alerted m.state) _ _ (λ (x : NetState). GoesOn r o (CallPresent offers.Asked due) Status (follows a t (net_to (call_of r ch o (CallPresent offers.Asked due)) None x)).standing)
+    (λ _. keep_row r ch o _ _ _ _ refl refl (rings_on Status refl))
+    (λ _. keep_row r ch o _ _ _ _ refl refl (rings_on Status refl))
+rung_at r ch o a m t due k q = absurd (false≢true q)
+
+rung_on : (r ch : ℕ) (o : NetOrigin) (a : Activity) (m : Heard) (t : ℕ) (k : Kind) (s : NetState) (due : ℕ) → s ≡ CallPresent offers.Asked due → net_is_ringing s m k ≡ true → GoesOn r o (net_awake_state s) k (follows a t (net_to (call_of r ch o s) None (net_rung t m.state))).standing
+rung_on r ch o a m t k s due is q = subst (λ (y : NetState). net_is_ringing y m k ≡ true → GoesOn r o (net_awake_state y) k (follows a t (net_to (call_of r ch o y) None (net_rung t m.state))).standing) (sym is) (rung_at r ch o a m t due k) q
 
 -- one that rings
 rings_hears : (t : ℕ) (e0 e : Entry) (m : Said) (octets : List ℕ) (rest : List (List ℕ)) (s : Standing) → StandingFits t e s → said_in_octets octets ≡ Some m → clears_by e.channel m.heard m.heard.kind ≡ false → is_ringing s ≡ true → ((x : Said) → names_call x s ≡ names x e0) → is_told (λ x. is_connect x.kind) e0 (octets ∷ rest) ≡ true → GoesOnTo e0 rest (with_standing e (hears m t s).standing)
@@ -403,6 +420,8 @@ rings_hears t e0 e m octets rest (OnCall c a) fits is spared rings named told =
       unacknowledged = λ asked due is q. absurd (false≢true (subst (λ (s : NetState). is_ringing_in s ≡ true) is rings));
       connected = λ due is q. keep_row c.reference c.channel c.origin _ _ _ _ refl refl (λ _. refl);
       put_off = λ offer due is q. absurd (true≢false (sym (put_off_clears e.channel c.state m.heard m.heard.kind q) ∙ spared));
+      unconnected = λ asked due is q. absurd (false≢true (subst (λ (s : NetState). is_ringing_in s ≡ true) is rings));
+      ringing = λ due is q. rung_on c.reference c.channel c.origin a m.heard t m.heard.kind c.state due is q;
     })
     (going_row c.reference c.channel c.origin x a m.heard t m.heard.kind (not_going (net_is_clearing x) p.0) p.1 (subst (λ ch. clears_by ch m.heard m.heard.kind ≡ false) (sym fits.channel) spared)) in
     decide (is_ringing (hears m t (OnCall c a)).standing)
@@ -422,6 +441,8 @@ asked_hears t e m (OnCall c a) fits spared agrees h = heard_by (λ (x : Transiti
       unacknowledged = λ asked due is q. refl;
       connected = λ due is q. absurd (false≢true (subst (λ (s : NetState). is_asked s ≡ true) is h));
       put_off = λ offer due is q. absurd (false≢true (subst (λ (s : NetState). is_asked s ≡ true) is h));
+      unconnected = λ asked due is q. refl;
+      ringing = λ due is q. absurd (false≢true (subst (λ (s : NetState). is_asked s ≡ true) is h));
     })
     (asked_row c.reference c.channel c.origin c.state a m.heard t m.heard.kind h (subst (λ ch. clears_by ch m.heard m.heard.kind ≡ false) (sym fits.channel) spared))
 asked_hears t e m s fits spared agrees h = absurd (false≢true h)
@@ -519,6 +540,8 @@ clears_hears t e0 e m octets rest (OnCall c a) is clearing named told =
       unacknowledged = λ asked due is q. absurd (false≢true (subst (λ (s : NetState). net_is_clearing s ≡ true) is clearing));
       connected = λ due is q. absurd (false≢true (subst (λ (s : NetState). net_is_clearing s ≡ true) is clearing));
       put_off = λ offer due is q. absurd (false≢true (subst (λ (s : NetState). net_is_clearing s ≡ true) is clearing));
+      unconnected = λ asked due is q. absurd (false≢true (subst (λ (s : NetState). net_is_clearing s ≡ true) is clearing));
+      ringing = λ due is q. absurd (false≢true (subst (λ (s : NetState). net_is_clearing s ≡ true) is clearing));
     })
     (cleared_row c.reference c.channel c.origin (net_awake_state c.state) a m.heard t m.heard.kind (awake_clearing c.state clearing)) in
     decide (is_live (hears m t (OnCall c a)).standing)

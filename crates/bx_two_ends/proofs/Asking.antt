@@ -1,4 +1,5 @@
 -- A call that is asked for in vain is not Active for long, and without an outage none is touched.
+use Rattle.bx_calls.specs.declared.rules.Rules.TheVariants.{Three}
 use Rattle.std.proofs.Common.{◌≡◌, ℕ, zero, suc, ◌+◌, ◌≤◌, ◌<◌, Bool, true, false, List, [], ◌∷◌, map, Option, Some, None, arith, refl, sym, ap, subst, ◌∙◌, not, ◌&&◌, nat_le, Result, Ok, Err, ◌==◌, ◌||◌, if◌then◌else◌}
 use Rattle.std.specs.List.{AllByRecursion, position}
 use Rattle.std.proofs.lemmas.Bool.{leb-false, true≢false, false≢true, eqb-true, false_from_ne_true}
@@ -24,8 +25,8 @@ use Rattle.bx_calls.specs.declared.times.Times.{Times}
 use Rattle.bx_calls.specs.declared.times.Times.TheVariants.{NotYet, Once, Twice}
 use Rattle.bx_calls.specs.declared.net_state.NetState.{NetState}
 use Rattle.bx_calls.specs.declared.net_state.NetState.TheVariants.{OutgoingCallProceeding, CallPresent, IncomingCallProceeding, CallReceived, Active, Enquiring, DisconnectIndication, ReleaseRequest}
-use Rattle.bx_calls.specs.Hearing.{Heard, names_channel, reports_null}
-use Rattle.bx_calls.specs.NetTable.{waits_for_acknowledge, is_after_outage, net_to, net_put_off, net_is_unacknowledged, net_is_put_off, net_disconnects, net_is_clearing, net_awake_state, net_heard, net_message, fits_active, reports_other, net_row, net_second, net_unlinked}
+use Rattle.bx_calls.specs.Hearing.{Heard, names_channel, reports_null, is_by_three}
+use Rattle.bx_calls.specs.NetTable.{waits_for_acknowledge, is_after_outage, net_to, net_put_off, net_is_unacknowledged, net_is_put_off, net_disconnects, net_is_clearing, net_awake_state, net_heard, net_message, fits_active, reports_other, net_row, net_second, net_unlinked, net_rung, is_alerted, net_is_unconnected, waits_for_connect}
 use Rattle.bx_calls.specs.Said.{Said, said_of}
 use Rattle.bx_calls.specs.Sending.{Sent, Answered}
 use Rattle.bx_day.specs.Day.{Day, entry_at, is_free, opening, entry_of, entries_from, every_channel}
@@ -151,18 +152,29 @@ either : (x y : Bool) → y ≡ true → (x || y) ≡ true
 either true y q = refl
 either false y q = q
 
+and_last : (x y : Bool) → (x && y) ≡ true → y ≡ true
+and_last true y q = q
+and_last false y q = absurd (false≢true q)
+
 -- one that waits for CONNECT ACKNOWLEDGE fits
 waiting_fits : (o : NetOrigin) (asked : Times) (due : ℕ) (m : Heard) (n : ℕ) → m.state ≡ Some n → net_is_unacknowledged (Enquiring asked due) o m Status ≡ true → fits_active o n ≡ true
 waiting_fits (Outward called) asked due m n state q = either (n == 10) (n == 8) (sym (ap waits_for_acknowledge state) ∙ q)
 waiting_fits Inward asked due m n state q = absurd (false≢true q)
+
+-- and so does one that waits for CONNECT
+connecting_fits : (o : NetOrigin) (asked : Times) (due : ℕ) (m : Heard) (n : ℕ) → m.state ≡ Some n → net_is_unconnected (Enquiring asked due) o m Status ≡ true → fits_active o n ≡ true
+connecting_fits (Outward called) asked due m n state q = absurd (false≢true q)
+connecting_fits Inward asked due m n state q = either (n == 10) (n == 3 || n == 1) (sym (ap waits_for_connect state) ∙ and_last (is_by_three m.rules) (waits_for_connect m.state) q)
 
 report_ends : (c : PlainNetCall) (m : Heard) (t n : ℕ) (s : NetState) → is_asked s ≡ true → m.state ≡ Some n → fits_active c.origin n ≡ false → is_call_up (net_heard c m t s Status).next ≡ false
 report_ends c m t n (Enquiring asked due) a state unfit = by_cases (reports_other c.origin m.state) _ _ (λ (x : Transition PlainNetCall). is_call_up x.next ≡ false)
     (λ _. refl)
     (λ q. by_cases (net_is_unacknowledged (Enquiring asked due) c.origin m Status) _ _ (λ (x : Transition PlainNetCall). is_call_up x.next ≡ false)
     (λ waits. absurd (true≢false (sym (waiting_fits c.origin asked due m n state waits) ∙ unfit)))
+    (λ _. by_cases (net_is_unconnected (Enquiring asked due) c.origin m Status) _ _ (λ (x : Transition PlainNetCall). is_call_up x.next ≡ false)
+    (λ waits. absurd (true≢false (sym (connecting_fits c.origin asked due m n state waits) ∙ unfit)))
     (λ _. (let null : reports_null m.state ≡ true = ap reports_null state ∙ is_null (n == 0) (fits_active c.origin n) (sym (ap (reports_other c.origin) state) ∙ q) unfit in
-    by_cases (reports_null m.state) _ _ (λ (x : Transition PlainNetCall). is_call_up x.next ≡ false) (λ _. refl) (λ p. absurd (true≢false (sym null ∙ p))))))
+    by_cases (reports_null m.state) _ _ (λ (x : Transition PlainNetCall). is_call_up x.next ≡ false) (λ _. refl) (λ p. absurd (true≢false (sym null ∙ p)))))))
 report_ends c m t n s a state unfit = absurd (false≢true a)
 
 pub reported_down : (c : PlainNetCall) (m : Heard) (t n : ℕ) → is_asked c.state ≡ true → m.kind ≡ Status → m.state ≡ Some n → fits_active c.origin n ≡ false → is_call_up (net_message c m t).next ≡ false
@@ -246,13 +258,16 @@ put_off_unasked : (t : ℕ) (offer : Offer) (due : ℕ) → is_asked (net_put_of
 put_off_unasked t PutOff due = refl
 put_off_unasked t offer due = refl
 
+rung_unasked : (t : ℕ) (reported : Option ℕ) → is_asked (net_rung t reported) ≡ false
+rung_unasked t reported = by_cases (is_alerted reported) _ _ (λ (x : NetState). is_asked x ≡ false) (λ _. refl) (λ _. refl)
+
 to_unasked : (s : Standing) → IsNone is_asked s → StandingUnasked s
 to_unasked (OnCall c a) h = h
 to_unasked s h = tt
 
 pub hears_awake : (m : Said) (t : ℕ) (s : Standing) → StandingUnasked (hears m t s).standing
 hears_awake m t (OnCall c a) = to_unasked (hears m t (OnCall c a)).standing (heard_by (StepNone is_asked a t) c m.heard t c.state m.heard.kind
-    (record { contradicted = λ asked due is q. refl; unacknowledged = λ asked due is q. refl; connected = λ due is q. refl; put_off = λ offer due is q. put_off_unasked t offer due })
+    (record { contradicted = λ asked due is q. refl; unacknowledged = λ asked due is q. refl; connected = λ due is q. refl; put_off = λ offer due is q. put_off_unasked t offer due; unconnected = λ asked due is q. refl; ringing = λ due is q. rung_unasked t m.heard.state })
     (row_none is_asked c.reference c.channel c.origin t a m.heard (net_awake_state c.state) m.heard.kind (record { proceeding = λ due. refl; received = λ due. refl; active = refl; releases = λ sent cause due. refl }) (awake_unasked c.state)))
 hears_awake m t s = tt
 
@@ -341,11 +356,11 @@ received_untouched : (d : Day) (m : Said) (o : Option ℕ) → IsUntouched d →
 received_untouched d m None h = stray_untouched d m m.heard.kind h
 received_untouched d m (Some i) h = moved_untouched d i (hears m d.moment (entry_at d.entries i).standing) (λ k. hears_untouched m d.moment (entry_at d.entries i).standing k) h
 
-from_untouched : (d : Day) (m : PlainMessage) (r : Reference) → IsUntouched d → IsUntouched (receive_from d m r).day
+from_untouched : (d : Day) (m : PlainMessage) (r : Reference) → IsUntouched d → IsUntouched (receive_from Three d m r).day
 from_untouched d m Dummy h = h
 from_untouched d m (Value value flag) h = by_cases (value == 0) _ _ (λ (x : Answered Day). IsUntouched x.day) (λ _. h) (λ _. received_untouched d (said_of value flag m) (position (names (said_of value flag m)) d.entries) h)
 
-read_untouched : (d : Day) (r : Result PlainMessage MessageFault) → IsUntouched d → IsUntouched (receive_read d r).day
+read_untouched : (d : Day) (r : Result PlainMessage MessageFault) → IsUntouched d → IsUntouched (receive_read Three d r).day
 read_untouched d (Err fault) h = h
 read_untouched d (Ok m) h = from_untouched d m m.reference h
 

@@ -229,6 +229,8 @@ over_hears u t end m (OnCall c a) h = heard_by (λ (x : Transition PlainNetCall)
       unacknowledged = λ asked due is q. absurd (subst (λ (s : NetState). ClearsBy u end s a) is h);
       connected = λ due is q. absurd (subst (λ (s : NetState). ClearsBy u end s a) is h);
       put_off = λ offer due is q. absurd (subst (λ (s : NetState). ClearsBy u end s a) is h);
+      unconnected = λ asked due is q. absurd (subst (λ (s : NetState). ClearsBy u end s a) is h);
+      ringing = λ due is q. absurd (subst (λ (s : NetState). ClearsBy u end s a) is h);
     })
     (over_row u t end c.reference c.channel c.origin m.heard (net_awake_state c.state) a m.heard.kind (over_awake u end c.state a h))
 over_hears u t end m (Carried from until) h = h

@@ -1,4 +1,5 @@
 -- A message that was sent comes as its parts: what the codec reads of its octets is what was meant.
+use Rattle.bx_calls.specs.declared.rules.Rules.TheVariants.{Three}
 use Rattle.std.proofs.Common.{◌≡◌, ◌∙◌, ℕ, ◌==◌, ◌≤◌, Bool, true, false, Option, Some, None, option_map, refl, ap, arith, if◌then◌else◌}
 use Rattle.std.specs.Option.{IfSome}
 use Rattle.std.proofs.lemmas.Bool.{ne_eqb}
@@ -49,7 +50,7 @@ not_zero n h = ne_eqb n 0 (λ e. absurd (omega (arith, e, h)))
 
 pub receive_sent : (d : Day) (o : Outgoing) → Sendable o → receive_octets d (out_octets o) ≡ receive d (said_from o)
 receive_sent d o h =
-    ap (receive_read d) (written_again o h.out h.called)
+    ap (receive_read Three d) (written_again o h.out h.called)
     ∙ ap (λ (b : Bool). if b then unchanged d None else receive d (said_of o.reference o.flag (message_of o))) (not_zero o.reference h.out.reference.0)
     ∙ ap (receive d) (heard_again o (has_parts o h.out h.channel h.called))
 

@@ -9,8 +9,8 @@ use Rattle.bx_q931.specs.declared.kind.Kind.TheVariants.{Connect, ConnectAcknowl
 use Rattle.bx_q931.specs.Outgoing.{Outgoing, IsCallReference, out_octets, message_of, plain}
 use Rattle.bx_q931.specs.Parts.{channel_part}
 use Rattle.bx_q931.proofs.PartsLemmas.{written_again, has_parts}
-use Rattle.bx_calls.specs.Hearing.{Heard, names_channel, reports_null}
-use Rattle.bx_calls.specs.NetTable.{net_row, net_message, net_heard, net_is_contradicted, net_awake_state, net_flag, net_is_clearing, net_says, net_same, net_to, net_status, net_releases}
+use Rattle.bx_calls.specs.Hearing.{Heard, names_channel, reports_null, is_by_three}
+use Rattle.bx_calls.specs.NetTable.{net_row, net_message, net_heard, net_is_contradicted, net_awake_state, net_flag, net_is_clearing, net_says, net_same, net_to, net_status, net_releases, net_put_off}
 use Rattle.bx_calls.specs.PlainCalls.{PlainNetCall}
 use Rattle.bx_calls.specs.Said.{Said, said_of}
 use Rattle.bx_calls.specs.Sending.{Answered, unchanged, reply_list}
@@ -20,7 +20,7 @@ use Rattle.bx_calls.specs.Steps.{ends}
 use Rattle.bx_calls.specs.UnknownTable.{unknown_status, refusal_of}
 use Rattle.bx_calls.specs.declared.unknown_reference.Side.TheVariants.{Network}
 use Rattle.bx_calls.specs.declared.times.Times.TheVariants.{Once}
-use Rattle.bx_calls.specs.declared.net_state.Offer.TheVariants.{Asked}
+use Rattle.bx_calls.specs.declared.net_state.Offer.TheVariants.{Asked, PutOff, Unlinked}
 use Rattle.bx_calls.specs.declared.net_state.NetState.{NetState}
 use Rattle.bx_calls.specs.declared.net_state.NetState.TheVariants as net
 use Rattle.bx_calls.specs.declared.transition.Transition.{Transition}
@@ -160,6 +160,10 @@ on_call P i Goal s h f = absurd h
 
 -- ---- rows of the table: none of these is asked for
 
+and_off_last : (x y : Bool) → y ≡ false → (x && y) ≡ false
+and_off_last true y q = q
+and_off_last false y q = refl
+
 pub present_awake : (s : NetState) → PresentIn s → net_awake_state s ≡ s
 present_awake (net.Enquiring asked due) p = absurd p
 present_awake s p = refl
@@ -181,10 +185,15 @@ present_connects x h t (net.CallPresent Asked due) p = absurd p
 present_connects x h t (net.CallPresent offer due) p = refl
 present_connects x h t s p = absurd p
 
-present_reports : (x : PlainNetCall) (h : Heard) (t : ℕ) (s : NetState) → PresentIn s → AsRow x h t s Status
-present_reports x h t (net.CallPresent Asked due) p = absurd p
-present_reports x h t (net.CallPresent offer due) p = refl
-present_reports x h t s p = absurd p
+put_off_on : (x : PlainNetCall) (h : Heard) (t : ℕ) (s : NetState) (b : Bool) → reports_null h.state ≡ false → (if b && reports_null h.state then net_to x None (net_put_off t s) else net_row (record x { state = s }) h t s Status) ≡ net_row (record x { state = s }) h t s Status
+put_off_on x h t s b state = ap (λ v. if v then net_to x None (net_put_off t s) else net_row (record x { state = s }) h t s Status) (and_off_last b (reports_null h.state) state)
+
+present_reports : (x : PlainNetCall) (h : Heard) (t : ℕ) (s : NetState) → PresentIn s → reports_null h.state ≡ false → AsRow x h t s Status
+present_reports x h t (net.CallPresent Asked due) p state = absurd p
+present_reports x h t (net.CallPresent PutOff due) p state = put_off_on x h t (net.CallPresent PutOff due) (is_by_three h.rules) state
+present_reports x h t (net.CallPresent Unlinked due) p state = put_off_on x h t (net.CallPresent Unlinked due) (is_by_three h.rules) state
+present_reports x h t (net.CallPresent offer due) p state = refl
+present_reports x h t s p state = absurd p
 
 active_row : (x : PlainNetCall) (h : Heard) (t : ℕ) (s : NetState) (k : Kind) → ActiveIn s → AsRow x h t s k
 active_row x h t net.Active k p = refl
@@ -194,11 +203,11 @@ indicated_row : (x : PlainNetCall) (h : Heard) (t : ℕ) (s : NetState) (k : Kin
 indicated_row x h t (net.DisconnectIndication cause due) k p = refl
 indicated_row x h t s k p = absurd p
 
-active_reports : (x : PlainNetCall) (h : Heard) (t : ℕ) (s : NetState) → ActiveIn s → AsRow x h t s Status
-active_reports x h t s p = active_row x h t s Status p
+active_reports : (x : PlainNetCall) (h : Heard) (t : ℕ) (s : NetState) → ActiveIn s → reports_null h.state ≡ false → AsRow x h t s Status
+active_reports x h t s p state = active_row x h t s Status p
 
-indicated_reports : (x : PlainNetCall) (h : Heard) (t : ℕ) (s : NetState) → IndicatedIn s → AsRow x h t s Status
-indicated_reports x h t s p = indicated_row x h t s Status p
+indicated_reports : (x : PlainNetCall) (h : Heard) (t : ℕ) (s : NetState) → IndicatedIn s → reports_null h.state ≡ false → AsRow x h t s Status
+indicated_reports x h t s p state = indicated_row x h t s Status p
 
 connect_row : (x : PlainNetCall) (h : Heard) (t : ℕ) (s : NetState) → PresentIn s → names_channel h.channel x.channel ≡ true → net_row x h t s Connect ≡ net_to x (Some (net_says x ConnectAcknowledge)) net.Active
 connect_row x h t (net.CallPresent again due) p is = ap (λ b. if b then net_to x (Some (net_says x ConnectAcknowledge)) net.Active else net_releases x Once (Some 6) t) is
@@ -295,10 +304,10 @@ release_indicated c i t o rest said s r ok ref kind p = on_call IndicatedIn i (L
     ))
 
 -- a report to a live call leaves it as it is
-report_live : (P : NetState → Type 0) → ((x : PlainNetCall) (h : Heard) (t : ℕ) (n : NetState) → P n → AsRow x h t n Status) → (c : Day) (i t : ℕ) (o : Outgoing) (rest said : List Outgoing) (s : Standing) → o.kind ≡ Status → reports_null o.state ≡ false → OutwardIn P i s → ((x : PlainNetCall) (a : Activity) → s ≡ OnCall x a → AtX c rest (said ++ []) i (OnCall x (activity_after a (is_active x.state) t))) → Leaves c i rest said (said_from o) t s
+report_live : (P : NetState → Type 0) → ((x : PlainNetCall) (h : Heard) (t : ℕ) (n : NetState) → P n → reports_null h.state ≡ false → AsRow x h t n Status) → (c : Day) (i t : ℕ) (o : Outgoing) (rest said : List Outgoing) (s : Standing) → o.kind ≡ Status → reports_null o.state ≡ false → OutwardIn P i s → ((x : PlainNetCall) (a : Activity) → s ≡ OnCall x a → AtX c rest (said ++ []) i (OnCall x (activity_after a (is_active x.state) t))) → Leaves c i rest said (said_from o) t s
 report_live P w c i t o rest said (OnCall x a) kind state p f =
     let h : Heard = (said_from o).heard in
-    let row : net_message x h t ≡ net_same x None = ap (net_heard x h t x.state) kind ∙ w x h t x.state p.0 ∙ report_row x h t x.state state in
+    let row : net_message x h t ≡ net_same x None = ap (net_heard x h t x.state) kind ∙ w x h t x.state p.0 state ∙ report_row x h t x.state state in
     subst (LeavesBy c i rest said a t) (sym row) (f x a refl, tt)
 report_live P w c i t o rest said Refused kind state p f = absurd p
 report_live P w c i t o rest said s kind state p f = absurd p

@@ -103,7 +103,7 @@ hears_ok : (o : Outgoing) (t : ℕ) (s : Standing) → StandingWithin s → Move
 hears_ok o t (OnCall c a) h =
     let step : Transition PlainNetCall = net_message c (said_from o).heard t in
     record {
-      said = follow_said Sendable a t step.reply step.next (heard_ok c.reference c.channel c.origin t (said_from o).heard c.state o.kind h.reference);
+      said = follow_said Sendable a t step.reply step.next (heard_ok c.reference c.channel c.origin t (said_from o).heard c.state o.kind h.reference h.channel);
       standing = follow_within c c.state (shows_connected o.kind o.state) a t step.reply step.reply step.next (heard_goes c.reference c.channel c.origin t (said_from o).heard c.state o.kind) h;
     }
 hears_ok o t Refused h = record { said = tt; standing = tt }

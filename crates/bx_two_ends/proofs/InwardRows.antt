@@ -22,7 +22,7 @@ use Rattle.bx_calls.specs.declared.user_state.UserState.{UserState}
 use Rattle.bx_calls.specs.declared.user_state.UserState.TheVariants as user
 use Rattle.bx_calls.specs.Hearing.{Heard, names_channel, reports_null}
 use Rattle.bx_calls.specs.States.{state_value, user_state}
-use Rattle.bx_calls.specs.NetTable.{net_awake_state, net_heard, net_offer_due, net_put_off, net_row, net_second, net_timer, net_is_clearing, net_unlinked, net_later}
+use Rattle.bx_calls.specs.NetTable.{net_awake_state, net_heard, net_offer_due, net_put_off, net_row, net_second, net_timer, net_is_clearing, net_unlinked, net_later, net_rung, is_alerted}
 use Rattle.bx_calls.specs.UserTable.{user_row, user_second, user_flag, user_releases}
 use Rattle.bx_day.proofs.Hear.{heard_by}
 use Rattle.bx_day.proofs.Said.{OfSaid}
@@ -137,6 +137,10 @@ awake_moves r ch o s cleared n g = g
 put_off_moves : (r ch : ℕ) (o : NetOrigin) (t : ℕ) (offer : Offer) (due : ℕ) (s : NetState) → is_presented s ≡ true → NetGoes r ch o s (call_of r ch o (net_put_off t (net.CallPresent offer due)))
 put_off_moves r ch o t offer due s h = record { reference = refl; channel = refl; origin = refl; presented = λ _. h }
 
+-- it rings
+rung_moves : (r ch : ℕ) (o : NetOrigin) (t : ℕ) (reported : Option ℕ) (s : NetState) → NetGoes r ch o s (call_of r ch o (net_rung t reported))
+rung_moves r ch o t reported s = by_cases (is_alerted reported) _ _ (λ (x : NetState). NetGoes r ch o s (call_of r ch o x)) (λ _. leads r ch o s _ refl) (λ _. leads r ch o s _ refl)
+
 pub net_heard_moves : (r ch : ℕ) (o : NetOrigin) (t : ℕ) (m : Heard) (s : NetState) (k : Kind) → NetRowMoves r ch o s m k (net_heard (call_of r ch o s) m t s k)
 net_heard_moves r ch o t m s k = heard_by (NetRowMoves r ch o s m k) (call_of r ch o s) m t s k
     (record {
@@ -144,6 +148,8 @@ net_heard_moves r ch o t m s k = heard_by (NetRowMoves r ch o s m k) (call_of r 
       unacknowledged = λ asked due is q. leads r ch o s _ refl;
       connected = λ due is q. leads r ch o s _ refl;
       put_off = λ offer due is q. put_off_moves r ch o t offer due s (ap is_presented is);
+      unconnected = λ asked due is q. leads r ch o s _ refl;
+      ringing = λ due is q. rung_moves r ch o t m.state s;
     })
     (awake_moves r ch o s (clears_as k m.state) (net_row (call_of r ch o (net_awake_state s)) m t (net_awake_state s) k).next (net_row_moves r ch o t m (net_awake_state s) k))
 

@@ -106,9 +106,9 @@ row_ok r ch o t m s Information h = tt
 row_ok r ch o t m s (Other octet) h = status_ok r _ 2 97 (net_state s) h two
 row_ok r ch o t m s k h = status_ok r _ 2 101 (net_state s) h two
 
-pub heard_ok : (r ch : ℕ) (o : NetOrigin) (t : ℕ) (m : Heard) (s : NetState) (k : Kind) → IsCallReference r → OfSaid Sendable (net_heard (call_of r ch o s) m t s k).reply
-heard_ok r ch o t m s k h = heard_by NetOk (call_of r ch o s) m t s k
-    (record { contradicted = λ asked due is q. cause_ok r _ Release 2 101 h tt two; unacknowledged = λ asked due is q. plain_ok r _ ConnectAcknowledge h tt; connected = λ due is q. plain_ok r _ ConnectAcknowledge h tt; put_off = λ offer due is q. tt })
+pub heard_ok : (r ch : ℕ) (o : NetOrigin) (t : ℕ) (m : Heard) (s : NetState) (k : Kind) → IsCallReference r → IsChannel ch → OfSaid Sendable (net_heard (call_of r ch o s) m t s k).reply
+heard_ok r ch o t m s k h c = heard_by NetOk (call_of r ch o s) m t s k
+    (record { contradicted = λ asked due is q. cause_ok r _ Release 2 101 h tt two; unacknowledged = λ asked due is q. plain_ok r _ ConnectAcknowledge h tt; connected = λ due is q. plain_ok r _ ConnectAcknowledge h tt; put_off = λ offer due is q. tt; unconnected = λ asked due is q. channel_ok r ch _ Connect h tt c; ringing = λ due is q. tt })
     (row_ok r ch o t m (net_awake_state s) k h)
 
 again_ok : (r ch : ℕ) (o : NetOrigin) (s : NetState) → IsCallReference r → IsChannel ch → NumberOf o → OfSaid Sendable (net_setup_again (call_of r ch o s) o)

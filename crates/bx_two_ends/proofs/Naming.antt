@@ -190,7 +190,7 @@ row_keeps m x t r ch o s a k = λ h. h
 
 pub hears_names : (m x : Said) (t : ℕ) (s : Standing) → names_call m (hears x t s).standing ≡ true → names_call m s ≡ true
 hears_names m x t (OnCall c a) h = heard_by (λ (y : Transition PlainNetCall). Keeps m c.reference c.origin (follows a t y).standing) c x.heard t c.state x.heard.kind
-    (record { contradicted = λ asked due is q k. k; unacknowledged = λ asked due is q k. k; connected = λ due is q k. k; put_off = λ offer due is q k. k }) (row_keeps m x.heard t c.reference c.channel c.origin (net_awake_state c.state) a x.heard.kind) h
+    (record { contradicted = λ asked due is q k. k; unacknowledged = λ asked due is q k. k; connected = λ due is q k. k; put_off = λ offer due is q k. k; unconnected = λ asked due is q k. k; ringing = λ due is q k. k }) (row_keeps m x.heard t c.reference c.channel c.origin (net_awake_state c.state) a x.heard.kind) h
 hears_names m x t s h = h
 
 flag_false : (x : Bool) (f : Bool) → f ≡ false → (x && bool_eq false (not f)) ≡ false

@@ -248,7 +248,7 @@ row_none r ch o t m s k = refl
 
 heard_none : (r ch : ℕ) (o : NetOrigin) (t : ℕ) (m : Heard) (s : NetState) (k : Kind) → NoSetups (net_heard (call_of r ch o s) m t s k)
 heard_none r ch o t m s k = heard_by NoSetups (call_of r ch o s) m t s k
-    (record { contradicted = λ asked due is q. refl; unacknowledged = λ asked due is q. refl; connected = λ due is q. refl; put_off = λ offer due is q. tt })
+    (record { contradicted = λ asked due is q. refl; unacknowledged = λ asked due is q. refl; connected = λ due is q. refl; put_off = λ offer due is q. tt; unconnected = λ asked due is q. refl; ringing = λ due is q. tt })
     (row_none r ch o t m (net_awake_state s) k)
 
 -- what is said to a message goes to the far end
@@ -271,7 +271,7 @@ message_keeps chan i t c m out w =
       next = goes_keeps i c c.state (shows_connected m.kind m.state) step.reply step.next out w (heard_goes c.reference c.channel c.origin t m c.state m.kind);
       says = said_both (OfCall c.reference c.origin) (λ p. Sendable p × NoSetup p) (SaidFor chan (suc i)) (λ p of ok. (never_setup chan p ok.0 (of.1 ∙ out.1) ok.1, of.0 ∙ out.0)) step.reply
           (heard_says c.reference c.channel c.origin t m c.state m.kind)
-          (said_both Sendable NoSetup (λ p. Sendable p × NoSetup p) (λ p a b. (a, b)) step.reply (heard_ok c.reference c.channel c.origin t m c.state m.kind w.reference) (heard_none c.reference c.channel c.origin t m c.state m.kind));
+          (said_both Sendable NoSetup (λ p. Sendable p × NoSetup p) (λ p a b. (a, b)) step.reply (heard_ok c.reference c.channel c.origin t m c.state m.kind w.reference w.channel) (heard_none c.reference c.channel c.origin t m c.state m.kind));
     }
 
 -- what is said to a message that names no live call

@@ -17,7 +17,7 @@ use Rattle.bx_calls.specs.declared.net_state.NetState.{NetState}
 use Rattle.bx_calls.specs.declared.net_state.NetState.TheVariants.{OutgoingCallProceeding, CallPresent, IncomingCallProceeding, CallReceived, Active, Enquiring, DisconnectIndication, ReleaseRequest}
 use Rattle.bx_calls.specs.Hearing.{Heard, names_channel, reports_null}
 use Rattle.bx_calls.specs.States.{state_value, net_state}
-use Rattle.bx_calls.specs.NetTable.{has_connected, net_awake_state, net_heard, net_is_unacknowledged, net_offer_due, net_offers, net_put_off, net_release_due, net_row, net_second, net_timer, net_flag, net_is_clearing, net_releases, net_unlinked, net_later}
+use Rattle.bx_calls.specs.NetTable.{has_connected, net_awake_state, net_heard, net_is_unacknowledged, net_offer_due, net_offers, net_put_off, net_release_due, net_row, net_second, net_timer, net_flag, net_is_clearing, net_releases, net_unlinked, net_later, net_rung, is_alerted}
 use Rattle.std.proofs.lemmas.Bool.{false≢true, or_left}
 use Rattle.bx_day.specs.Moves.{is_active}
 use Rattle.bx_day.proofs.Hear.{heard_by}
@@ -180,6 +180,10 @@ put_off_goes : (r ch : ℕ) (o : NetOrigin) (t : ℕ) (offer : Offer) (due : ℕ
 put_off_goes r ch o t PutOff due s k h = ringing r ch o s _ k None h refl refl tt
 put_off_goes r ch o t offer due s k h = ringing r ch o s _ k None h refl refl tt
 
+-- it rings
+rung_goes : (r ch : ℕ) (o : NetOrigin) (t : ℕ) (reported : Option ℕ) (s : NetState) (k : Bool) → net_is_clearing s ≡ false → Goes r ch o s k None (call_of r ch o (net_rung t reported))
+rung_goes r ch o t reported s k h = by_cases (is_alerted reported) _ _ (λ (x : NetState). Goes r ch o s k None (call_of r ch o x)) (λ _. ringing r ch o s _ k None h refl refl tt) (λ _. ringing r ch o s _ k None h refl refl tt)
+
 pub heard_goes : (r ch : ℕ) (o : NetOrigin) (t : ℕ) (m : Heard) (s : NetState) (k : Kind) → GoesOn r ch o s (shows_connected k m.state) (net_heard (call_of r ch o s) m t s k)
 heard_goes r ch o t m s k =
     let shows = shows_connected k m.state in
@@ -190,6 +194,8 @@ heard_goes r ch o t m s k =
       unacknowledged = λ asked due is q. talking r ch o s shows _ (ap net_is_clearing is) (ap (λ x. is_active x || (shows || is_proceeding x)) is) refl;
       connected = λ due is q. talking r ch o s shows _ (ap net_is_clearing is) (ap (λ x. is_active x || (shows || is_proceeding x)) is ∙ ap (λ b. b || false) (shown due o m k (subst (λ x. net_is_unacknowledged x o m k ≡ true) is q))) refl;
       put_off = λ offer due is q. put_off_goes r ch o t offer due s shows (ap net_is_clearing is);
+      unconnected = λ asked due is q. talking r ch o s shows _ (ap net_is_clearing is) (ap (λ x. is_active x || (shows || is_proceeding x)) is) refl;
+      ringing = λ due is q. rung_goes r ch o t m.state s shows (ap net_is_clearing is);
     })
     (awake_goes r ch o s shows row.reply row.next (row_goes r ch o t m (net_awake_state s) k))
 
@@ -227,7 +233,7 @@ row_says r ch o t m s k = (refl, refl)
 
 pub heard_says : (r ch : ℕ) (o : NetOrigin) (t : ℕ) (m : Heard) (s : NetState) (k : Kind) → OfSaid (OfCall r o) (net_heard (call_of r ch o s) m t s k).reply
 heard_says r ch o t m s k = heard_by (λ (x : Transition PlainNetCall). OfSaid (OfCall r o) x.reply) (call_of r ch o s) m t s k
-    (record { contradicted = λ asked due is q. (refl, refl); unacknowledged = λ asked due is q. (refl, refl); connected = λ due is q. (refl, refl); put_off = λ offer due is q. tt })
+    (record { contradicted = λ asked due is q. (refl, refl); unacknowledged = λ asked due is q. (refl, refl); connected = λ due is q. (refl, refl); put_off = λ offer due is q. tt; unconnected = λ asked due is q. (refl, refl); ringing = λ due is q. tt })
     (row_says r ch o t m (net_awake_state s) k)
 
 -- at a tick; a SETUP that goes again names the channel

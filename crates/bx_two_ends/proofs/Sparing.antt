@@ -1,10 +1,11 @@
 -- A far end that clears by its messages just what is cleared: calls may ring.
+use Rattle.bx_day.proofs.Tick.{by_cases}
 use Rattle.std.proofs.Common.{◌≡◌, ℕ, Bool, true, false, List, [], ◌∷◌, Option, Some, None, refl, sym, subst, ◌∙◌, inl, inr, if◌then◌else◌}
 use Rattle.std.proofs.lemmas.Bool.{false≢true, true≢false, false_from_ne_true}
 use Rattle.bx_q931.specs.declared.kind.Kind.{Kind}
 use Rattle.bx_q931.specs.declared.kind.Kind.TheVariants.{Disconnect, Release, ReleaseComplete, StatusEnquiry, Status}
 use Rattle.bx_calls.specs.Hearing.{Heard, reports_null}
-use Rattle.bx_calls.specs.NetTable.{net_row, net_awake_state, net_is_clearing}
+use Rattle.bx_calls.specs.NetTable.{net_row, net_awake_state, net_is_clearing, net_rung, is_alerted, net_to}
 use Rattle.bx_calls.specs.PlainCalls.{PlainNetCall}
 use Rattle.bx_calls.specs.Said.{Said}
 use Rattle.bx_calls.specs.declared.net_state.NetOrigin.{NetOrigin}
@@ -52,6 +53,10 @@ call_row r ch o (Enquiring asked due) a m t k h n c = absurd (true≢false n)
 call_row r ch o OutgoingCallProceeding a m t k h n c = third_row r ch o a m t k c
 call_row r ch o s a m t k h n c = (going_row r ch o s a m t k h refl c).going
 
+-- one that rings goes on
+rung_going : (r ch : ℕ) (o : NetOrigin) (a : Activity) (t : ℕ) (reported : Option ℕ) → is_going (follows a t (net_to (call_of r ch o (net_rung t reported)) None (net_rung t reported))).standing ≡ true
+rung_going r ch o a t reported = by_cases (is_alerted reported) _ _ (λ (x : NetState). is_going (follows a t (net_to (call_of r ch o x) None x)).standing ≡ true) (λ _. refl) (λ _. refl)
+
 going_hears : (t : ℕ) (e : Entry) (m : Said) (s : Standing) → StandingFits t e s → clears_by e.channel m.heard m.heard.kind ≡ false → contradicts s m.heard ≡ false → is_going s ≡ true → is_going (hears m t s).standing ≡ true
 going_hears t e m (OnCall c a) fits spared agrees h = heard_by (λ (x : Transition PlainNetCall). is_going (follows a t x).standing ≡ true) c m.heard t c.state m.heard.kind
     (record {
@@ -59,6 +64,8 @@ going_hears t e m (OnCall c a) fits spared agrees h = heard_by (λ (x : Transiti
       unacknowledged = λ asked due is q. refl;
       connected = λ due is q. refl;
       put_off = λ offer due is q. absurd (true≢false (sym (put_off_clears e.channel c.state m.heard m.heard.kind q) ∙ spared));
+      unconnected = λ asked due is q. refl;
+      ringing = λ due is q. rung_going c.reference c.channel c.origin a t m.heard.state;
     })
     (call_row c.reference c.channel c.origin (net_awake_state c.state) a m.heard t m.heard.kind (awake_going c.state (not_going (net_is_clearing c.state) h)) (awake_unasked c.state) (subst (λ ch. clears_by ch m.heard m.heard.kind ≡ false) (sym fits.channel) spared))
 going_hears t e m s fits spared agrees h = absurd (false≢true h)

@@ -1,4 +1,6 @@
 -- A second of a day in which the far end answers: what it leaves of one outward booking, and of its channel.
+use Rattle.bx_calls.specs.declared.rules.Rules.{Rules}
+use Rattle.bx_calls.specs.declared.rules.Rules.TheVariants.{Three}
 use Rattle.std.proofs.Common.{◌≡◌, ℕ, zero, suc, ◌≤◌, ◌<◌, ◌==◌, ◌&&◌, ◌||◌, not, Bool, true, false, List, [], ◌∷◌, length, Option, Some, None, arith, refl, sym, subst, ap, ◌∙◌, slice_set, slice_index_or, nat_le, nat_lt, inl, inr, if◌then◌else◌}
 use Rattle.std.specs.List.{position}
 use Rattle.std.proofs.lemmas.Bool.{false≢true, true≢false, and_parts, and_from, le-leb, lt-ltb, or_cases}
@@ -14,7 +16,7 @@ use Rattle.std.specs.Prelude.{Result, Ok, Err, is_some}
 use Rattle.bx_channels.specs.Marks.{is_marked}
 use Rattle.bx_calls.specs.PlainCalls.{PlainNetCall}
 use Rattle.bx_calls.specs.NetTable.{net_is_clearing}
-use Rattle.bx_calls.specs.Said.{Said, said_of}
+use Rattle.bx_calls.specs.Said.{Said, said_under}
 use Rattle.bx_calls.specs.Sending.{Answered}
 use Rattle.bx_base.specs.Bookings.{Row, is_running}
 use Rattle.bx_base.specs.Plans.{is_accepted}
@@ -24,7 +26,7 @@ use Rattle.bx_two_ends.specs.Earning.{heard_in, is_settled}
 use Rattle.bx_day.specs.Invariant.{StandingFits, EntryFits, DayFits, is_refused}
 use Rattle.bx_day.specs.Law.{OnLive, standing_at}
 use Rattle.bx_day.specs.Receipts.{is_open, opens, lowest_open, names, hears, takes_call, takes_or, takes_preferred, called_on, called, stray, received_at, with_moved}
-use Rattle.bx_day.specs.Run.{receive_from, receive_read, receive_octets}
+use Rattle.bx_day.specs.Run.{receive_from, receive_read, receive_octets, receive_octets_by}
 use Rattle.bx_day.specs.declared.entry.Activity.{Activity}
 use Rattle.bx_day.specs.declared.entry.Entry.{Entry}
 use Rattle.bx_day.specs.declared.entry.Moved.{Moved}
@@ -65,17 +67,20 @@ received_day : (Q : Day → Type 0) (d : Day) (m : Said) (o : Option ℕ) → Q 
 received_day Q d m None q f g = stray_day Q d m m.heard.kind q g
 received_day Q d m (Some i) q f g = f i
 
-from_day : (Q : Day → Type 0) (d : Day) (m : PlainMessage) (r : Reference) → Q d → ((s : Said) (i : ℕ) → Q (with_moved d i (hears s d.moment (entry_at d.entries i).standing)).day) → ((s : Said) (i : ℕ) → is_open d (entry_at d.entries i) ≡ true → Q (with_moved d i (takes_call s (entry_at d.entries i))).day) → Q (receive_from d m r).day
-from_day Q d m Dummy q f g = q
-from_day Q d m (Value value flag) q f g = by_cases (value == 0) _ _ (λ (x : Answered Day). Q x.day) (λ _. q) (λ _. let s = said_of value flag m in received_day Q d s (position (names s) d.entries) q (f s) (g s))
+from_day : (u : Rules) (Q : Day → Type 0) (d : Day) (m : PlainMessage) (r : Reference) → Q d → ((s : Said) (i : ℕ) → Q (with_moved d i (hears s d.moment (entry_at d.entries i).standing)).day) → ((s : Said) (i : ℕ) → is_open d (entry_at d.entries i) ≡ true → Q (with_moved d i (takes_call s (entry_at d.entries i))).day) → Q (receive_from u d m r).day
+from_day u Q d m Dummy q f g = q
+from_day u Q d m (Value value flag) q f g = by_cases (value == 0) _ _ (λ (x : Answered Day). Q x.day) (λ _. q) (λ _. let s = said_under u value flag m in received_day Q d s (position (names s) d.entries) q (f s) (g s))
 
-read_day : (Q : Day → Type 0) (d : Day) (r : Result PlainMessage MessageFault) → Q d → ((s : Said) (i : ℕ) → Q (with_moved d i (hears s d.moment (entry_at d.entries i).standing)).day) → ((s : Said) (i : ℕ) → is_open d (entry_at d.entries i) ≡ true → Q (with_moved d i (takes_call s (entry_at d.entries i))).day) → Q (receive_read d r).day
-read_day Q d (Err fault) q f g = q
-read_day Q d (Ok m) q f g = from_day Q d m m.reference q f g
+read_day : (u : Rules) (Q : Day → Type 0) (d : Day) (r : Result PlainMessage MessageFault) → Q d → ((s : Said) (i : ℕ) → Q (with_moved d i (hears s d.moment (entry_at d.entries i).standing)).day) → ((s : Said) (i : ℕ) → is_open d (entry_at d.entries i) ≡ true → Q (with_moved d i (takes_call s (entry_at d.entries i))).day) → Q (receive_read u d r).day
+read_day u Q d (Err fault) q f g = q
+read_day u Q d (Ok m) q f g = from_day u Q d m m.reference q f g
 
 -- where a message was heard by a call, and where it began one
+pub octets_day_by : (u : Rules) (Q : Day → Type 0) (d : Day) (octets : List ℕ) → Q d → ((s : Said) (i : ℕ) → Q (with_moved d i (hears s d.moment (entry_at d.entries i).standing)).day) → ((s : Said) (i : ℕ) → is_open d (entry_at d.entries i) ≡ true → Q (with_moved d i (takes_call s (entry_at d.entries i))).day) → Q (receive_octets_by u d octets).day
+octets_day_by u Q d octets q f g = read_day u Q d (message_at octets) q f g
+
 pub octets_day : (Q : Day → Type 0) (d : Day) (octets : List ℕ) → Q d → ((s : Said) (i : ℕ) → Q (with_moved d i (hears s d.moment (entry_at d.entries i).standing)).day) → ((s : Said) (i : ℕ) → is_open d (entry_at d.entries i) ≡ true → Q (with_moved d i (takes_call s (entry_at d.entries i))).day) → Q (receive_octets d octets).day
-octets_day Q d octets q f g = read_day Q d (message_at octets) q f g
+octets_day Q d octets q f g = octets_day_by Three Q d octets q f g
 
 pub at_set : (P : Entry → Type 0) (es : List Entry) (i k : ℕ) (y : Entry) → (P (entry_at es i) → P y) → P (entry_at es k) → P (entry_at (slice_set es i y) k)
 at_set P (e ∷ es) zero zero y f p = f p
