@@ -5,30 +5,32 @@ use Rattle.bx_events.specs.Events.{LiveEvent}
 use Rattle.bx_journal.specs.declared.fault.JournalFault.{JournalFault}
 use Rattle.bx_journal.specs.declared.fault.JournalFault.TheVariants.{BadLine, OtherPlan, OtherDay, OtherRules}
 use Rattle.bx_journal.specs.declared.head.JournalDay.{JournalDay}
-use Rattle.bx_journal.specs.declared.head.TheConstants.{RULES}
+use Rattle.bx_journal.specs.declared.head.TheConstants.{RULES, OLDER_RULES}
 use Rattle.bx_journal.specs.declared.head.Wanted.{Wanted}
-use Rattle.bx_journal.specs.declared.head_reading.Version.{Version}
-use Rattle.bx_journal.specs.declared.head_reading.Version.TheVariants.{Undated, Dated}
+use Rattle.bx_journal.specs.declared.version.Version.{Version}
+use Rattle.bx_journal.specs.declared.version.Version.TheVariants.{Undated, Older, Dated}
+use Rattle.bx_journal.specs.Versions.{has_day, head_lines}
 use Rattle.bx_journal.specs.Lines.{whole_lines}
 use Rattle.bx_journal.specs.Numbers.{number_on}
 use Rattle.bx_journal.specs.Text.{plan_line}
-use Rattle.bx_journal.specs.Reading.{event_on, with_event, events_on, undated, dated_by, version_on, is_plan_line, plan_on, day_on, fits_day, after_day, after_plan, after_version, head_on, events_after, recovered}
+use Rattle.bx_journal.specs.Reading.{event_on, with_event, events_on, older_version, dated_by, version_on, is_plan_line, plan_on, day_on, fits_day, after_day, dated_head, after_plan, after_version, head_on, events_after, recovered}
 
 abbrev err_of : {T : Type 0} → JournalFault → Result T JournalFault
 err_of f = Err f
 
-of_rules : (t : Bool) → cond t (Ok Dated) (Err OtherRules) ≡ err_of OtherDay → ⊥
-of_rules true e = absurd cc
-of_rules false e = absurd cc
+of_old : (w : Version) (day : Option JournalDay) → older_version w day ≡ err_of OtherDay → ⊥
+of_old w None e = absurd cc
+of_old w (Some day) e = absurd cc
 
-of_old : (day : Option JournalDay) → undated day ≡ err_of OtherDay → ⊥
-of_old None e = absurd cc
-of_old (Some day) e = absurd cc
+of_rules : (s t : Bool) (day : Option JournalDay) → cond s (Ok Dated) (cond t (older_version Older day) (Err OtherRules)) ≡ err_of OtherDay → ⊥
+of_rules true t day e = absurd cc
+of_rules false true day e = of_old Older day e
+of_rules false false day e = absurd cc
 
-by_tests : (a b : Bool) (day : Option JournalDay) (o : Option ℕ) → cond a (undated day) (cond b (dated_by o) (Err (BadLine 1))) ≡ err_of OtherDay → ⊥
-by_tests true b day o e = of_old day e
+by_tests : (a b : Bool) (day : Option JournalDay) (o : Option ℕ) → cond a (older_version Undated day) (cond b (dated_by day o) (Err (BadLine 1))) ≡ err_of OtherDay → ⊥
+by_tests true b day o e = of_old Undated day e
 by_tests false true day None e = absurd cc
-by_tests false true day (Some n) e = of_rules (n == RULES) e
+by_tests false true day (Some n) e = of_rules (n == RULES) (n == OLDER_RULES) day e
 by_tests false false day o e = absurd cc
 
 version_other : (day : Option JournalDay) (line : List ℕ) → version_on day line ≡ err_of OtherDay → ⊥
@@ -46,19 +48,21 @@ any_fits : (o : Option JournalDay) → fits_day None o ≡ err_of OtherDay → �
 any_fits None e = absurd cc
 any_fits (Some day) e = absurd cc
 
-same_fault : (f g : JournalFault) → err_of {T = ℕ} f ≡ err_of g → f ≡ g
+same_fault : (f g : JournalFault) → err_of {T = Version} f ≡ err_of g → f ≡ g
 same_fault f g e = cc
 
 module _ (wanted : Wanted) (any : wanted.day ≡ None) where
-  third : (line : List ℕ) (r : Result (Unit {0}) JournalFault) → fits_day wanted.day (day_on line) ≡ r → after_day r ≡ err_of OtherDay → ⊥
-  third line (Ok x) is e = absurd cc
-  third line (Err f) is e = any_fits (day_on line) (ap (λ (d : Option JournalDay). fits_day d (day_on line)) (sym any) ∙ is ∙ ap err_of (same_fault f OtherDay e))
+  third : (v : Version) (line : List ℕ) (r : Result (Unit {0}) JournalFault) → fits_day wanted.day (day_on line) ≡ r → after_day v r ≡ err_of OtherDay → ⊥
+  third v line (Ok x) is e = absurd cc
+  third v line (Err f) is e = any_fits (day_on line) (ap (λ (d : Option JournalDay). fits_day d (day_on line)) (sym any) ∙ is ∙ ap err_of (same_fault f OtherDay e))
 
   second : (v : Version) (line : List ℕ) (lines : List (List ℕ)) (r : Result (Unit {0}) JournalFault) → plan_on wanted.plan line ≡ r → after_plan wanted.day r v lines ≡ err_of OtherDay → ⊥
   second v line lines (Err f) is e = plan_other wanted.plan line (is ∙ ap err_of (same_fault f OtherDay e))
-  second Undated line lines (Ok x) is e = absurd cc
-  second Dated line [] (Ok x) is e = absurd cc
-  second Dated line (l3 ∷ rest) (Ok x) is e = third l3 (fits_day wanted.day (day_on l3)) refl e
+  second v line lines (Ok x) is e = told (has_day v) lines e where
+    told : (t : Bool) (lines : List (List ℕ)) → cond t (dated_head v wanted.day lines) (Ok v) ≡ err_of OtherDay → ⊥
+    told false lines e = absurd cc
+    told true [] e = absurd cc
+    told true (l3 ∷ rest) e = third v l3 (fits_day wanted.day (day_on l3)) refl e
 
   first : (line : List ℕ) (lines : List (List ℕ)) (r : Result Version JournalFault) → version_on wanted.day line ≡ r → after_version wanted r lines ≡ err_of OtherDay → ⊥
   first line lines (Err f) is e = version_other wanted.day line (is ∙ ap err_of (same_fault f OtherDay e))
@@ -74,12 +78,12 @@ module _ (wanted : Wanted) (any : wanted.day ≡ None) where
   one n (Some event) (Ok events) none e = absurd cc
   one n (Some event) (Err f) none e = none e
 
-  events_other : (n : ℕ) (lines : List (List ℕ)) → events_on n lines ≡ err_of OtherDay → ⊥
-  events_other n [] e = absurd cc
-  events_other n (line ∷ lines) e = one n (event_on line) (events_on (n + 1) lines) (λ is. events_other (n + 1) lines is) e
+  events_other : (v : Version) (n : ℕ) (lines : List (List ℕ)) → events_on v n lines ≡ err_of OtherDay → ⊥
+  events_other v n [] e = absurd cc
+  events_other v n (line ∷ lines) e = one n (event_on v line) (events_on v (n + 1) lines) (λ is. events_other v (n + 1) lines is) e
 
-  by_head : (lines : List (List ℕ)) (r : Result ℕ JournalFault) → head_on wanted lines ≡ r → events_after r lines ≡ err_of OtherDay → ⊥
-  by_head lines (Ok n) is e = events_other (n + 1) (drop n lines) e
+  by_head : (lines : List (List ℕ)) (r : Result Version JournalFault) → head_on wanted lines ≡ r → events_after r lines ≡ err_of OtherDay → ⊥
+  by_head lines (Ok v) is e = events_other v (head_lines v + 1) (drop (head_lines v) lines) e
   by_head lines (Err f) is e = head_other lines (is ∙ ap err_of (same_events_fault f OtherDay e)) where
     same_events_fault : (f g : JournalFault) → err_of {T = List LiveEvent} f ≡ err_of g → f ≡ g
     same_events_fault f g e = cc

@@ -9,15 +9,16 @@ use Rattle.bx_journal.specs.declared.fault.JournalFault.{JournalFault}
 use Rattle.bx_journal.specs.declared.fault.JournalFault.TheVariants.{BadLine, OtherPlan, OtherDay, OtherRules, NotBegun, ReadFailed}
 use Rattle.bx_journal.specs.declared.head.JournalDay.{JournalDay}
 use Rattle.bx_journal.specs.declared.head.JournalDay.TheVariants.{Rehearsed, Live}
-use Rattle.bx_journal.specs.declared.head.TheConstants.{RULES}
-use Rattle.bx_journal.specs.declared.head_reading.Version.{Version}
-use Rattle.bx_journal.specs.declared.head_reading.Version.TheVariants.{Undated, Dated}
+use Rattle.bx_journal.specs.declared.head.TheConstants.{RULES, OLDER_RULES}
+use Rattle.bx_journal.specs.declared.version.Version.{Version}
+use Rattle.bx_journal.specs.declared.version.Version.TheVariants.{Undated, Older, Dated}
+use Rattle.bx_journal.specs.Versions.{is_older, IsReadWhere}
 use Rattle.bx_journal.specs.Heads.{IsJournalDay, IsWantedDay}
 use Rattle.bx_journal.specs.Inside.{HasNoLf}
 use Rattle.bx_journal.specs.Numbers.{number_on, space_at}
 use Rattle.bx_journal.specs.Hex.{hex_of}
-use Rattle.bx_journal.specs.Text.{rules_line, plan_line, day_line}
-use Rattle.bx_journal.specs.Reading.{undated, dated_by, version_on, is_plan_line, plan_on, live_of, live_on, day_on, is_day, fits_day}
+use Rattle.bx_journal.specs.Text.{rules_line, first_line, plan_line, day_line}
+use Rattle.bx_journal.specs.Reading.{older_version, dated_by, version_on, is_plan_line, plan_on, live_of, live_on, day_on, is_day, fits_day}
 use Rattle.bx_journal.proofs.NumbersRead.{IsNumberOf, decimal_digits, number_read, number_spelled, decimal_short, none_long, decimal_without_lf, space_after, space_parts, decimal_some}
 use Rattle.bx_journal.proofs.Digits.{hex_length}
 use Rattle.bx_journal.proofs.Takings.{no_lf_on}
@@ -30,43 +31,63 @@ rules_without_lf rules small = (refl, (refl, (refl, (refl, (refl, (refl, (refl, 
 small_rules : RULES < 4294967296
 small_rules = omega arith
 
-pub our_rules_without_lf : HasNoLf (rules_line RULES)
-our_rules_without_lf = rules_without_lf RULES small_rules
+small_older : OLDER_RULES < 4294967296
+small_older = omega arith
 
-pub version_read : (day : Option JournalDay) → version_on day (rules_line RULES) ≡ Ok Dated
-version_read day = ap dated_by (number_read RULES small_rules)
+pub first_without_lf : (v : Version) → HasNoLf (first_line v)
+first_without_lf Undated = (refl, (refl, (refl, (refl, (refl, (refl, (refl, (refl, (refl, (refl, (refl, (refl, tt))))))))))))
+first_without_lf Older = rules_without_lf OLDER_RULES small_older
+first_without_lf Dated = rules_without_lf RULES small_rules
 
-pub undated_read : (day : Option JournalDay) → version_on day (codes "bx-journal 1") ≡ undated day
-undated_read day = refl
+-- where it is read
+pub first_read : (v : Version) (day : Option JournalDay) → IsReadWhere v day → version_on day (first_line v) ≡ Ok v
+first_read Undated day read = ap (older_version Undated) (read refl)
+first_read Older day read = ap (dated_by day) (number_read OLDER_RULES small_older) ∙ ap (older_version Older) (read refl)
+first_read Dated day read = ap (dated_by day) (number_read RULES small_rules)
 
-abbrev ok_version : Version → Result Version JournalFault
+-- and where it is not
+pub first_refused : (v : Version) (wanted : Option JournalDay) (day : JournalDay) → wanted ≡ Some day → is_older v ≡ true → version_on wanted (first_line v) ≡ Err OtherRules
+first_refused Undated wanted day some older = ap (older_version Undated) some
+first_refused Older wanted day some older = ap (dated_by wanted) (number_read OLDER_RULES small_older) ∙ ap (older_version Older) some
+first_refused Dated wanted day some older = absurd cc
+
+-- other rules
+pub rules_refused : (day : Option JournalDay) (rules : ℕ) → rules < 4294967296 → (rules ≡ RULES → ⊥) → (rules ≡ OLDER_RULES → ⊥) → version_on day (rules_line rules) ≡ Err OtherRules
+rules_refused day rules small other older = ap (dated_by day) (number_read rules small) ∙ (rw (ne_eqb rules RULES other, ne_eqb rules OLDER_RULES older) refl)
+
+abbrev pub ok_version : Version → Result Version JournalFault
 ok_version v = Ok v
 
 version_inj : (v w : Version) → ok_version v ≡ ok_version w → v ≡ w
 version_inj v w e = cc
 
 -- what a first line is that has no fault
-abbrev pub IsFirstLine : Option JournalDay → List ℕ → Version → Type 0
-IsFirstLine day line Undated = (day ≡ None) × (line ≡ codes "bx-journal 1")
-IsFirstLine day line Dated = line ≡ rules_line RULES
+pub record IsFirstLine (day : Option JournalDay) (line : List ℕ) (v : Version) : Type 0 where
+  pub is : line ≡ first_line v
+  pub is_read : IsReadWhere v day
 
-by_undated : (day : Option JournalDay) (line : List ℕ) (v : Version) → bytes_eq line (codes "bx-journal 1") ≡ true → undated day ≡ Ok v → IsFirstLine day line v
-by_undated None line v is e = subst (IsFirstLine None line) (version_inj _ _ e) (refl, (bytes_eq-Decides line (codes "bx-journal 1")).0 is)
-by_undated (Some day) line v is e = absurd cc
+by_older : (w : Version) (day : Option JournalDay) (line : List ℕ) (v : Version) → line ≡ first_line w → older_version w day ≡ Ok v → IsFirstLine day line v
+by_older w None line v is e = subst (IsFirstLine None line) (version_inj _ _ e) (record { is = is; is_read = λ older. refl })
+by_older w (Some day) line v is e = absurd cc
 
-by_number : (t : Bool) (day : Option JournalDay) (line : List ℕ) (n : ℕ) (v : Version) → n == RULES ≡ t → number_on (drop 19 line) ≡ Some n → take 19 line ≡ codes "bx-journal 2 rules " → cond t (Ok Dated) (Err OtherRules) ≡ Ok v → IsFirstLine day line v
-by_number true day line n v same some word e =
-    let spelled : drop 19 line ≡ decimal RULES = (number_spelled (drop 19 line) n some).spelled ∙ ap (λ (k : ℕ). decimal k) (eqb-true n RULES same) in
-    subst (IsFirstLine day line) (version_inj _ _ e) (sym (take-append-drop 19 line) ∙ ap (λ (l : List ℕ). l ++ drop 19 line) word ∙ ap (λ (l : List ℕ). codes "bx-journal 2 rules " ++ l) spelled)
-by_number false day line n v same some word e = absurd cc
+spelled_by : (line : List ℕ) (n rules : ℕ) → n == rules ≡ true → number_on (drop 19 line) ≡ Some n → take 19 line ≡ codes "bx-journal 2 rules " → line ≡ rules_line rules
+spelled_by line n rules same some word =
+    let spelled : drop 19 line ≡ decimal rules = (number_spelled (drop 19 line) n some).spelled ∙ ap (λ (k : ℕ). decimal k) (eqb-true n rules same) in
+    sym (take-append-drop 19 line) ∙ ap (λ (l : List ℕ). l ++ drop 19 line) word ∙ ap (λ (l : List ℕ). codes "bx-journal 2 rules " ++ l) spelled
 
-by_rules : (day : Option JournalDay) (line : List ℕ) (o : Option ℕ) (v : Version) → number_on (drop 19 line) ≡ o → take 19 line ≡ codes "bx-journal 2 rules " → dated_by o ≡ Ok v → IsFirstLine day line v
+by_number : (s t : Bool) (day : Option JournalDay) (line : List ℕ) (n : ℕ) (v : Version) → n == RULES ≡ s → n == OLDER_RULES ≡ t → number_on (drop 19 line) ≡ Some n → take 19 line ≡ codes "bx-journal 2 rules "
+    → cond s (Ok Dated) (cond t (older_version Older day) (Err OtherRules)) ≡ Ok v → IsFirstLine day line v
+by_number true t day line n v same older some word e = subst (IsFirstLine day line) (version_inj _ _ e) (record { is = spelled_by line n RULES same some word; is_read = λ none. absurd cc })
+by_number false true day line n v other older some word e = by_older Older day line v (spelled_by line n OLDER_RULES older some word) e
+by_number false false day line n v other unknown some word e = absurd cc
+
+by_rules : (day : Option JournalDay) (line : List ℕ) (o : Option ℕ) (v : Version) → number_on (drop 19 line) ≡ o → take 19 line ≡ codes "bx-journal 2 rules " → dated_by day o ≡ Ok v → IsFirstLine day line v
 by_rules day line None v is word e = absurd cc
-by_rules day line (Some n) v is word e = by_number (n == RULES) day line n v refl is word e
+by_rules day line (Some n) v is word e = by_number (n == RULES) (n == OLDER_RULES) day line n v refl refl is word e
 
 by_words : (a b : Bool) (day : Option JournalDay) (line : List ℕ) (v : Version) → bytes_eq line (codes "bx-journal 1") ≡ a → bytes_eq (take 19 line) (codes "bx-journal 2 rules ") ≡ b
-    → cond a (undated day) (cond b (dated_by (number_on (drop 19 line))) (Err (BadLine 1))) ≡ Ok v → IsFirstLine day line v
-by_words true b day line v first word e = by_undated day line v first e
+    → cond a (older_version Undated day) (cond b (dated_by day (number_on (drop 19 line))) (Err (BadLine 1))) ≡ Ok v → IsFirstLine day line v
+by_words true b day line v first word e = by_older Undated day line v ((bytes_eq-Decides line (codes "bx-journal 1")).0 first) e
 by_words false true day line v first word e = by_rules day line (number_on (drop 19 line)) v refl ((bytes_eq-Decides (take 19 line) (codes "bx-journal 2 rules ")).0 word) e
 by_words false false day line v first word e = absurd cc
 
@@ -201,18 +222,19 @@ line_err f g is e = let same : f ≡ g = cc in subst IsLineFault same is
 
 pub version_fault : (day : Option JournalDay) (line : List ℕ) (f : JournalFault) → version_on day line ≡ Err f → IsLineFault f
 version_fault day line f e = by_tests (bytes_eq line (codes "bx-journal 1")) (bytes_eq (take 19 line) (codes "bx-journal 2 rules ")) (number_on (drop 19 line)) e where
-  of_old : (day : Option JournalDay) → undated day ≡ Err f → IsLineFault f
-  of_old None e = absurd cc
-  of_old (Some day) e = version_err OtherRules f tt e
+  of_old : (w : Version) (day : Option JournalDay) → older_version w day ≡ Err f → IsLineFault f
+  of_old w None e = absurd cc
+  of_old w (Some day) e = version_err OtherRules f tt e
 
-  of_rules : (t : Bool) → cond t (Ok Dated) (Err OtherRules) ≡ the_version_err f → IsLineFault f
-  of_rules true e = absurd cc
-  of_rules false e = version_err OtherRules f tt e
+  of_rules : (s t : Bool) → cond s (Ok Dated) (cond t (older_version Older day) (Err OtherRules)) ≡ the_version_err f → IsLineFault f
+  of_rules true t e = absurd cc
+  of_rules false true e = of_old Older day e
+  of_rules false false e = version_err OtherRules f tt e
 
-  by_tests : (a b : Bool) (o : Option ℕ) → cond a (undated day) (cond b (dated_by o) (Err (BadLine 1))) ≡ Err f → IsLineFault f
-  by_tests true b o e = of_old day e
+  by_tests : (a b : Bool) (o : Option ℕ) → cond a (older_version Undated day) (cond b (dated_by day o) (Err (BadLine 1))) ≡ Err f → IsLineFault f
+  by_tests true b o e = of_old Undated day e
   by_tests false true None e = version_err (BadLine 1) f tt e
-  by_tests false true (Some n) e = of_rules (n == RULES) e
+  by_tests false true (Some n) e = of_rules (n == RULES) (n == OLDER_RULES) e
   by_tests false false o e = version_err (BadLine 1) f tt e
 
 pub plan_on_fault : (plan line : List ℕ) (f : JournalFault) → plan_on plan line ≡ Err f → IsLineFault f

@@ -1,5 +1,5 @@
 -- What is read of a head: lines of it, one after another.
-use Rattle.std.proofs.Common.{codes, ◌≡◌, ◌⊎◌, inl, inr, ℕ, ◌+◌, ◌<◌, ◌≤◌, Bool, true, false, cond, List, [], ◌∷◌, ◌++◌, length, Option, Some, None, Result, Ok, Err, refl, ap, sym, ◌∙◌, subst, append_assoc, arith, length-append}
+use Rattle.std.proofs.Common.{codes, ◌≡◌, inl, inr, ℕ, ◌+◌, ◌<◌, ◌≤◌, Bool, true, false, cond, List, [], ◌∷◌, ◌++◌, length, Option, Result, Ok, Err, refl, ap, sym, ◌∙◌, subst, append_assoc, arith, length-append}
 use Rattle.std.specs.Prelude.{decimal}
 use Rattle.std.specs.Str.{bytes_eq}
 use Rattle.std.specs.List.{flat_map}
@@ -9,18 +9,20 @@ use Rattle.bx_journal.specs.declared.fault.JournalFault.{JournalFault}
 use Rattle.bx_journal.specs.declared.fault.JournalFault.TheVariants.{BadLine, OtherPlan, OtherDay, OtherRules, NotBegun, ReadFailed}
 use Rattle.bx_journal.specs.declared.head.Head.{Head}
 use Rattle.bx_journal.specs.declared.head.JournalDay.{JournalDay}
-use Rattle.bx_journal.specs.declared.head.TheConstants.{RULES}
+use Rattle.bx_journal.specs.declared.head.TheConstants.{RULES, OLDER_RULES}
 use Rattle.bx_journal.specs.declared.head.Wanted.{Wanted}
-use Rattle.bx_journal.specs.declared.head_reading.Version.{Version}
-use Rattle.bx_journal.specs.declared.head_reading.Version.TheVariants.{Undated, Dated}
-use Rattle.bx_journal.specs.Heads.{IsJournalDay, IsWanted}
+use Rattle.bx_journal.specs.declared.head.JournalDay.TheVariants.{Rehearsed}
+use Rattle.bx_journal.specs.declared.version.Version.{Version}
+use Rattle.bx_journal.specs.declared.version.Version.TheVariants.{Undated, Older, Dated}
+use Rattle.bx_journal.specs.Versions.{has_day, head_lines, IsReadWhere}
+use Rattle.bx_journal.specs.Heads.{IsJournalDay, IsWanted, IsWantedDay}
 use Rattle.bx_journal.specs.Held.{Held}
 use Rattle.bx_journal.specs.Lines.{line_ended}
 use Rattle.bx_journal.specs.Inside.{HasNoLf, HaveNoLf}
-use Rattle.bx_journal.specs.Text.{rules_line, plan_line, day_line}
+use Rattle.bx_journal.specs.Text.{first_line, plan_line, day_line, day_lines}
 use Rattle.bx_journal.specs.Reading.{version_on, plan_on, plan_fault, day_on, fits_day, after_day, dated_head, after_plan, after_version, head_on}
 use Rattle.bx_journal.specs.Taking.{Takes, TakesLine, TakesLines, TakesTorn, IsJudged, IsNoneTaken, IsHeadLine, HeadTaken, HeadRefused, IsHead}
-use Rattle.bx_journal.proofs.DayLines.{version_read, day_read, day_fits, version_spelled, third_spelled, IsLineFault, version_fault, plan_on_fault, day_fault}
+use Rattle.bx_journal.proofs.DayLines.{first_read, day_read, day_fits, IsFirstLine, ok_version, version_spelled, third_spelled, IsLineFault, version_fault, plan_on_fault, day_fault}
 use Rattle.bx_journal.proofs.Takings.{takes_then, takes_none}
 
 -- ---- lines that were taken
@@ -39,7 +41,7 @@ torn_after before middle after old mid new lines torn first next none =
     record { torn = torn; takes = takes_then before middle after old mid new (flat_map line_ended lines) torn first.takes next; no_lf = first.no_lf; torn_no_lf = none }
 
 -- Lines of the head were taken, and this says what the head is by those after them.
-pub record SoFar (wanted : Wanted) (before after : Option (List ℕ)) (old new : Held) (n : ℕ) (said : List (List ℕ) → Result ℕ JournalFault) : Type 0 where
+pub record SoFar (wanted : Wanted) (before after : Option (List ℕ)) (old new : Held) (n : ℕ) (said : List (List ℕ) → Result Version JournalFault) : Type 0 where
   pub lines : List (List ℕ)
   pub taken : TakesLines before after old new lines
   pub count : length lines ≡ n
@@ -56,7 +58,7 @@ as_fault wanted faulted before after old new OtherRules is r = r
 as_fault wanted faulted before after old new NotBegun is r = absurd is
 as_fault wanted faulted before after old new ReadFailed is r = absurd is
 
-module _ {T : Type 0} (wanted : Wanted) (before middle after : Option (List ℕ)) (old mid new : Held) (n : ℕ) (said : List (List ℕ) → Result ℕ JournalFault) (judge : List ℕ → Result T JournalFault) (following : Result T JournalFault → List (List ℕ) → Result ℕ JournalFault)
+module _ {T : Type 0} (wanted : Wanted) (before middle after : Option (List ℕ)) (old mid new : Held) (n : ℕ) (said : List (List ℕ) → Result Version JournalFault) (judge : List ℕ → Result T JournalFault) (following : Result T JournalFault → List (List ℕ) → Result Version JournalFault)
     (so_far : SoFar wanted before middle old mid n said) (next : (line : List ℕ) (rest : List (List ℕ)) → said (line ∷ rest) ≡ following (judge line) rest) where
   pub one_more : (r : Result T JournalFault) → IsJudged judge middle after mid new r → SoFar wanted before after old new (n + 1) (following r)
   one_more r j = record {
@@ -118,17 +120,26 @@ module _ (wanted : Wanted) (faulted : Bool) where
     pub plan_passed : (v : Version) → SoFar wanted before middle old mid 1 (after_version wanted (Ok v)) → IsHeadLine (plan_on wanted.plan) faulted middle after mid new (Ok tt) → SoFar wanted before after old new 2 (after_plan wanted.day (Ok tt) v)
     plan_passed v so_far line = passed wanted before middle after old mid new 1 (after_version wanted (Ok v)) (plan_on wanted.plan) (λ r. after_plan wanted.day r v) so_far (λ l rest. refl) faulted tt line
 
-    pub day_failed : (f : JournalFault) → SoFar wanted before middle old mid 2 (dated_head wanted.day) → IsHeadLine (λ l. fits_day wanted.day (day_on l)) faulted middle after mid new (Err f) → IsHead wanted faulted before after old new (Err f)
-    day_failed f so_far line =
-        failed wanted before middle after old mid new 2 (dated_head wanted.day) (λ l. fits_day wanted.day (day_on l)) (λ r rest. after_day r) so_far (λ l rest. refl) faulted f refl (λ rest. refl) (λ l e. day_fault wanted.day l f e) line
+    pub day_failed : (v : Version) (f : JournalFault) → SoFar wanted before middle old mid 2 (dated_head v wanted.day) → IsHeadLine (λ l. fits_day wanted.day (day_on l)) faulted middle after mid new (Err f) → IsHead wanted faulted before after old new (Err f)
+    day_failed v f so_far line =
+        failed wanted before middle after old mid new 2 (dated_head v wanted.day) (λ l. fits_day wanted.day (day_on l)) (λ r rest. after_day v r) so_far (λ l rest. refl) faulted f refl (λ rest. refl) (λ l e. day_fault wanted.day l f e) line
 
-    pub day_passed : SoFar wanted before middle old mid 2 (dated_head wanted.day) → IsHeadLine (λ l. fits_day wanted.day (day_on l)) faulted middle after mid new (Ok tt) → HeadTaken wanted before after old new 3
-    day_passed so_far line =
-        let all = passed wanted before middle after old mid new 2 (dated_head wanted.day) (λ l. fits_day wanted.day (day_on l)) (λ r rest. after_day r) so_far (λ l rest. refl) faulted tt line in
-        record { lines = all.lines; taken = all.taken; count = all.count; is = all.is }
+    pub day_passed : (v : Version) → has_day v ≡ true → SoFar wanted before middle old mid 2 (dated_head v wanted.day) → IsHeadLine (λ l. fits_day wanted.day (day_on l)) faulted middle after mid new (Ok tt) → HeadTaken wanted before after old new v
+    day_passed v told so_far line =
+        let all = passed wanted before middle after old mid new 2 (dated_head v wanted.day) (λ l. fits_day wanted.day (day_on l)) (λ r rest. after_day v r) so_far (λ l rest. refl) faulted tt line in
+        record { lines = all.lines; taken = all.taken; count = all.count ∙ ap (λ (b : Bool). cond b 3 2) (sym told); is = all.is }
 
-    pub undated_taken : SoFar wanted before after old new 2 (after_plan wanted.day (Ok tt) Undated) → HeadTaken wanted before after old new 2
-    undated_taken all = record { lines = all.lines; taken = all.taken; count = all.count; is = all.is }
+    -- the head tells a day, or it does not
+    pub day_follows : (v : Version) → has_day v ≡ true → SoFar wanted before after old new 2 (after_plan wanted.day (Ok tt) v) → SoFar wanted before after old new 2 (dated_head v wanted.day)
+    day_follows v told all = subst (λ (b : Bool). SoFar wanted before after old new 2 (λ lines. cond b (dated_head v wanted.day lines) (Ok v))) told all
+
+    pub undated_taken : (v : Version) → has_day v ≡ false → SoFar wanted before after old new 2 (after_plan wanted.day (Ok tt) v) → HeadTaken wanted before after old new v
+    undated_taken v none all = record {
+      lines = all.lines;
+      taken = all.taken;
+      count = all.count ∙ ap (λ (b : Bool). cond b 3 2) (sym none);
+      is = λ rest. all.is rest ∙ ap (λ (b : Bool). cond b (dated_head v wanted.day rest) (Ok v)) none;
+    }
 
 -- ---- a head that was written
 
@@ -138,56 +149,40 @@ same xs = (bytes_eq-Decides xs xs).1 refl
 pub plan_read : (wanted plan : List ℕ) → wanted ≡ plan → plan_on wanted (plan_line plan) ≡ Ok tt
 plan_read wanted plan is = ap (λ (p : List ℕ). plan_on p (plan_line plan)) is ∙ ap (λ (b : Bool). cond b (Ok tt) (Err (plan_fault (plan_line plan)))) (same (plan_line plan))
 
-module _ (wanted : Wanted) (head : Head) (is : IsWanted wanted head) (day : IsJournalDay head.day) where
-  abbrev plan_there : List (List ℕ) → Result ℕ JournalFault
-  plan_there lines = after_plan wanted.day (plan_on wanted.plan (plan_line head.plan)) Dated lines
-
+module _ (wanted : Wanted) (head : Head) (is : IsWanted wanted head) (day : IsJournalDay head.day) (v : Version) (read : IsReadWhere v wanted.day) where
   fits : fits_day wanted.day (day_on (day_line head.day)) ≡ Ok tt
   fits = ap (fits_day wanted.day) (day_read head.day day) ∙ day_fits wanted.day head.day is.day
 
-  pub one_line : head_on wanted (rules_line RULES ∷ []) ≡ Err NotBegun
-  one_line = ap (λ (r : Result Version JournalFault). after_version wanted r []) (version_read wanted.day)
+  pub one_line : head_on wanted (first_line v ∷ []) ≡ Err NotBegun
+  one_line = ap (λ (r : Result Version JournalFault). after_version wanted r []) (first_read v wanted.day read)
 
-  pub two_lines : head_on wanted (rules_line RULES ∷ plan_line head.plan ∷ []) ≡ Err NotBegun
-  two_lines =
-      ap (λ (r : Result Version JournalFault). after_version wanted r (plan_line head.plan ∷ [])) (version_read wanted.day)
-      ∙ ap (λ (r : Result (Unit {0}) JournalFault). after_plan wanted.day r Dated []) (plan_read wanted.plan head.plan is.plan)
+  two_read : (lines : List (List ℕ)) → head_on wanted (first_line v ∷ plan_line head.plan ∷ lines) ≡ after_plan wanted.day (Ok tt) v lines
+  two_read lines =
+      ap (λ (r : Result Version JournalFault). after_version wanted r (plan_line head.plan ∷ lines)) (first_read v wanted.day read)
+      ∙ ap (λ (r : Result (Unit {0}) JournalFault). after_plan wanted.day r v lines) (plan_read wanted.plan head.plan is.plan)
 
-  pub head_read : (rest : List (List ℕ)) → head_on wanted (rules_line RULES ∷ plan_line head.plan ∷ day_line head.day ∷ rest) ≡ Ok 3
-  head_read rest =
-      ap (λ (r : Result Version JournalFault). after_version wanted r (plan_line head.plan ∷ day_line head.day ∷ rest)) (version_read wanted.day)
-      ∙ ap (λ (r : Result (Unit {0}) JournalFault). after_plan wanted.day r Dated (day_line head.day ∷ rest)) (plan_read wanted.plan head.plan is.plan) ∙ ap after_day fits
+  pub two_lines : has_day v ≡ true → head_on wanted (first_line v ∷ plan_line head.plan ∷ []) ≡ Err NotBegun
+  two_lines told = two_read [] ∙ ap (λ (b : Bool). cond b (Err NotBegun) (Ok v)) told
 
-pub undated_head_read : (wanted : Wanted) (rest : List (List ℕ)) → wanted.day ≡ None → head_on wanted (codes "bx-journal 1" ∷ plan_line wanted.plan ∷ rest) ≡ Ok 2
-undated_head_read wanted rest none =
-    ap (λ (d : Option JournalDay). after_version wanted (version_on d (codes "bx-journal 1")) (plan_line wanted.plan ∷ rest)) none
-    ∙ ap (λ (r : Result (Unit {0}) JournalFault). after_plan wanted.day r Undated rest) (plan_read wanted.plan wanted.plan refl)
+  day_there : (t : Bool) (rest : List (List ℕ)) → cond t (dated_head v wanted.day (cond t (day_line head.day ∷ []) [] ++ rest)) (Ok v) ≡ Ok v
+  day_there true rest = ap (after_day v) fits
+  day_there false rest = refl
 
-pub undated_refused : (wanted : Wanted) (day : JournalDay) (rest : List (List ℕ)) → wanted.day ≡ Some day → head_on wanted (codes "bx-journal 1" ∷ rest) ≡ Err OtherRules
-undated_refused wanted day rest some = ap (λ (d : Option JournalDay). after_version wanted (version_on d (codes "bx-journal 1")) rest) some
+  pub head_read : (rest : List (List ℕ)) → head_on wanted (first_line v ∷ plan_line head.plan ∷ (day_lines v head.day ++ rest)) ≡ Ok v
+  head_read rest = two_read (day_lines v head.day ++ rest) ∙ day_there (has_day v) rest
 
 -- ---- a head that was read
 
--- of version 2, or of version 1
-pub record IsDated (wanted : Wanted) (lines : List (List ℕ)) (n : ℕ) : Type 0 where
+pub record IsHeadOf (wanted : Wanted) (lines : List (List ℕ)) (v : Version) : Type 0 where
+  pub is_read : IsReadWhere v wanted.day
   pub head : Head
   pub is_wanted : IsWanted wanted head
   pub day : IsJournalDay head.day
   pub rest : List (List ℕ)
-  pub are : lines ≡ rules_line RULES ∷ plan_line head.plan ∷ day_line head.day ∷ rest
-  pub count : n ≡ 3
+  pub are : lines ≡ first_line v ∷ plan_line head.plan ∷ (day_lines v head.day ++ rest)
 
-pub record IsUndated (wanted : Wanted) (lines : List (List ℕ)) (n : ℕ) : Type 0 where
-  pub none : wanted.day ≡ None
-  pub rest : List (List ℕ)
-  pub are : lines ≡ codes "bx-journal 1" ∷ plan_line wanted.plan ∷ rest
-  pub count : n ≡ 2
-
-abbrev the_count : ℕ → Result ℕ JournalFault
-the_count n = Ok n
-
-count_inj : (n m : ℕ) → the_count n ≡ the_count m → n ≡ m
-count_inj n m e = cc
+version_inj : (v w : Version) → ok_version v ≡ ok_version w → v ≡ w
+version_inj v w e = cc
 
 abbrev the_ok : Result (Unit {0}) JournalFault
 the_ok = Ok tt
@@ -199,58 +194,75 @@ plan_by false plan line is e = absurd cc
 pub plan_spelled : (plan line : List ℕ) → plan_on plan line ≡ Ok tt → line ≡ plan_line plan
 plan_spelled plan line e = plan_by (bytes_eq line (plan_line plan)) plan line refl e
 
-module _ (wanted : Wanted) (n : ℕ) where
-  by_day : (l1 l2 l3 : List ℕ) (rest : List (List ℕ)) (r : Result (Unit {0}) JournalFault) → l1 ≡ rules_line RULES → l2 ≡ plan_line wanted.plan → fits_day wanted.day (day_on l3) ≡ r → after_day r ≡ Ok n → IsDated wanted (l1 ∷ l2 ∷ l3 ∷ rest) n
-  by_day l1 l2 l3 rest (Err f) first second is e = absurd cc
-  by_day l1 l2 l3 rest (Ok x) first second is e =
+-- a journal whose head tells no day is read where none is wanted
+any_day : (w : Version) (wanted : Option JournalDay) (day : JournalDay) → has_day w ≡ false → IsReadWhere w wanted → IsWantedDay wanted day
+any_day Undated wanted day none read = subst (λ (o : Option JournalDay). IsWantedDay o day) (sym (read refl)) tt
+any_day Older wanted day none read = absurd cc
+any_day Dated wanted day none read = absurd cc
+
+module _ (wanted : Wanted) (v : Version) where
+  by_day : (w : Version) (l1 l2 l3 : List ℕ) (rest : List (List ℕ)) (r : Result (Unit {0}) JournalFault) → has_day w ≡ true → IsFirstLine wanted.day l1 w → l2 ≡ plan_line wanted.plan → fits_day wanted.day (day_on l3) ≡ r → after_day w r ≡ Ok v
+      → IsHeadOf wanted (l1 ∷ l2 ∷ l3 ∷ rest) v
+  by_day w l1 l2 l3 rest (Err f) told first second is e = absurd cc
+  by_day w l1 l2 l3 rest (Ok x) told first second is e =
       let third = third_spelled wanted.day l3 is in
-      record {
+      subst (IsHeadOf wanted (l1 ∷ l2 ∷ l3 ∷ rest)) (version_inj _ _ e) (record {
+        is_read = first.is_read;
         head = record { plan = wanted.plan; day = third.day };
         is_wanted = record { plan = refl; day = third.fits };
         day = third.is;
         rest = rest;
-        are = ap (λ (l : List ℕ). l ∷ l2 ∷ l3 ∷ rest) first ∙ ap (λ (l : List ℕ). rules_line RULES ∷ l ∷ l3 ∷ rest) second ∙ ap (λ (l : List ℕ). rules_line RULES ∷ plan_line wanted.plan ∷ l ∷ rest) third.spelled;
-        count = sym (count_inj 3 n e);
-      }
+        are = ap (λ (l : List ℕ). l ∷ l2 ∷ l3 ∷ rest) first.is
+            ∙ ap (λ (l : List ℕ). first_line w ∷ l ∷ l3 ∷ rest) second
+            ∙ ap (λ (l : List ℕ). first_line w ∷ plan_line wanted.plan ∷ l ∷ rest) third.spelled
+            ∙ ap (λ (b : Bool). first_line w ∷ plan_line wanted.plan ∷ (cond b (day_line third.day ∷ []) [] ++ rest)) (sym told);
+      })
 
-  by_version : (v : Version) (l1 l2 : List ℕ) (lines : List (List ℕ)) (r : Result (Unit {0}) JournalFault) → version_on wanted.day l1 ≡ Ok v → plan_on wanted.plan l2 ≡ r → after_plan wanted.day r v lines ≡ Ok n
-      → IsDated wanted (l1 ∷ l2 ∷ lines) n ⊎ IsUndated wanted (l1 ∷ l2 ∷ lines) n
-  by_version v l1 l2 lines (Err f) first second e = absurd cc
-  by_version Undated l1 l2 lines (Ok x) first second e =
-      let version = version_spelled wanted.day l1 Undated first in
-      inr (record { none = version.0; rest = lines; are = rw (version.1, plan_spelled wanted.plan l2 second) refl; count = sym (count_inj 2 n e) })
-  by_version Dated l1 l2 [] (Ok x) first second e = absurd cc
-  by_version Dated l1 l2 (l3 ∷ rest) (Ok x) first second e =
-      inl (by_day l1 l2 l3 rest (fits_day wanted.day (day_on l3)) (version_spelled wanted.day l1 Dated first) (plan_spelled wanted.plan l2 second) refl e)
+  by_two : (t : Bool) (w : Version) (l1 l2 : List ℕ) (lines : List (List ℕ)) → has_day w ≡ t → IsFirstLine wanted.day l1 w → l2 ≡ plan_line wanted.plan → cond t (dated_head w wanted.day lines) (Ok w) ≡ Ok v → IsHeadOf wanted (l1 ∷ l2 ∷ lines) v
+  by_two false w l1 l2 lines none first second e = subst (IsHeadOf wanted (l1 ∷ l2 ∷ lines)) (version_inj _ _ e) (record {
+    is_read = first.is_read;
+    head = record { plan = wanted.plan; day = Rehearsed };
+    is_wanted = record { plan = refl; day = any_day w wanted.day Rehearsed none first.is_read };
+    day = tt;
+    rest = lines;
+    are = ap (λ (l : List ℕ). l ∷ l2 ∷ lines) first.is
+        ∙ ap (λ (l : List ℕ). first_line w ∷ l ∷ lines) second
+        ∙ ap (λ (b : Bool). first_line w ∷ plan_line wanted.plan ∷ (cond b (day_line Rehearsed ∷ []) [] ++ lines)) (sym none);
+  })
+  by_two true w l1 l2 [] told first second e = absurd cc
+  by_two true w l1 l2 (l3 ∷ rest) told first second e = by_day w l1 l2 l3 rest (fits_day wanted.day (day_on l3)) told first second refl e
 
-  by_first : (l1 : List ℕ) (lines : List (List ℕ)) (r : Result Version JournalFault) → version_on wanted.day l1 ≡ r → after_version wanted r lines ≡ Ok n → IsDated wanted (l1 ∷ lines) n ⊎ IsUndated wanted (l1 ∷ lines) n
+  by_version : (w : Version) (l1 l2 : List ℕ) (lines : List (List ℕ)) (r : Result (Unit {0}) JournalFault) → version_on wanted.day l1 ≡ Ok w → plan_on wanted.plan l2 ≡ r → after_plan wanted.day r w lines ≡ Ok v → IsHeadOf wanted (l1 ∷ l2 ∷ lines) v
+  by_version w l1 l2 lines (Err f) first second e = absurd cc
+  by_version w l1 l2 lines (Ok x) first second e = by_two (has_day w) w l1 l2 lines refl (version_spelled wanted.day l1 w first) (plan_spelled wanted.plan l2 second) e
+
+  by_first : (l1 : List ℕ) (lines : List (List ℕ)) (r : Result Version JournalFault) → version_on wanted.day l1 ≡ r → after_version wanted r lines ≡ Ok v → IsHeadOf wanted (l1 ∷ lines) v
   by_first l1 lines (Err f) is e = absurd cc
-  by_first l1 [] (Ok v) is e = absurd cc
-  by_first l1 (l2 ∷ lines) (Ok v) is e = by_version v l1 l2 lines (plan_on wanted.plan l2) is refl e
+  by_first l1 [] (Ok w) is e = absurd cc
+  by_first l1 (l2 ∷ lines) (Ok w) is e = by_version w l1 l2 lines (plan_on wanted.plan l2) is refl e
 
-  pub head_spelled : (lines : List (List ℕ)) → head_on wanted lines ≡ Ok n → IsDated wanted lines n ⊎ IsUndated wanted lines n
+  pub head_spelled : (lines : List (List ℕ)) → head_on wanted lines ≡ Ok v → IsHeadOf wanted lines v
   head_spelled [] e = absurd cc
   head_spelled (l1 ∷ lines) e = by_first l1 lines (version_on wanted.day l1) refl e
 
--- it has more octets than lines, of which there are three at most
-pub record IsPast (n taken : ℕ) : Type 0 where
-  pub few : n ≤ 3
-  pub past : n < taken
+-- it has more octets than lines
+few_lines : (v : Version) → head_lines v ≤ 3
+few_lines Undated = omega arith
+few_lines Older = omega arith
+few_lines Dated = omega arith
 
-count_by : (wanted : Wanted) (lines : List (List ℕ)) (n : ℕ) → IsDated wanted lines n ⊎ IsUndated wanted lines n → IsPast n (length (flat_map line_ended lines))
-count_by wanted lines n (inl d) =
-    let following = flat_map line_ended (plan_line d.head.plan ∷ day_line d.head.day ∷ d.rest) in
-    let long : length (flat_map line_ended lines) ≡ length (line_ended (rules_line RULES) ++ following) = ap (λ (ls : List (List ℕ)). length (flat_map line_ended ls)) d.are in
-    record {
-      few = omega (arith, d.count);
-      past = omega (arith, d.count, long, length-append (line_ended (rules_line RULES)) following, length-append (rules_line RULES) (10 ∷ []), length-append (codes "bx-journal 2 rules ") (decimal RULES));
-    }
-count_by wanted lines n (inr u) =
-    let following = flat_map line_ended (plan_line wanted.plan ∷ u.rest) in
-    let long : length (flat_map line_ended lines) ≡ length (line_ended (codes "bx-journal 1") ++ following) = ap (λ (ls : List (List ℕ)). length (flat_map line_ended ls)) u.are in
-    record { few = omega (arith, u.count); past = omega (arith, u.count, long, length-append (line_ended (codes "bx-journal 1")) following) }
+first_long : (v : Version) → 3 ≤ length (first_line v)
+first_long Undated = omega arith
+first_long Older = omega (arith, length-append (codes "bx-journal 2 rules ") (decimal OLDER_RULES))
+first_long Dated = omega (arith, length-append (codes "bx-journal 2 rules ") (decimal RULES))
 
-pub past_head : (wanted : Wanted) (before after : Option (List ℕ)) (old new : Held) (n : ℕ) → HeadTaken wanted before after old new n → IsPast n new.taken
-past_head wanted before after old new n head =
-    let p = count_by wanted head.lines n (head_spelled wanted n head.lines (ap (head_on wanted) (sym (append-nil head.lines)) ∙ head.is [])) in
-    record { few = p.few; past = omega (arith, p.past, head.taken.takes.count) }
+count_by : (wanted : Wanted) (lines : List (List ℕ)) (v : Version) → IsHeadOf wanted lines v → head_lines v < length (flat_map line_ended lines)
+count_by wanted lines v d =
+    let following = flat_map line_ended (plan_line d.head.plan ∷ (day_lines v d.head.day ++ d.rest)) in
+    let long : length (flat_map line_ended lines) ≡ length (line_ended (first_line v) ++ following) = ap (λ (ls : List (List ℕ)). length (flat_map line_ended ls)) d.are in
+    omega (arith, few_lines v, first_long v, long, length-append (line_ended (first_line v)) following, length-append (first_line v) (10 ∷ []))
+
+pub past_head : (wanted : Wanted) (before after : Option (List ℕ)) (old new : Held) (v : Version) → HeadTaken wanted before after old new v → head_lines v < new.taken
+past_head wanted before after old new v head =
+    let past = count_by wanted head.lines v (head_spelled wanted v head.lines (ap (head_on wanted) (sym (append-nil head.lines)) ∙ head.is [])) in
+    omega (arith, past, head.taken.takes.count)

@@ -8,7 +8,9 @@ use Rattle.bx_events.specs.Events.{LiveEvent}
 use Rattle.bx_journal.specs.declared.fault.JournalFault.{JournalFault}
 use Rattle.bx_journal.specs.declared.fault.JournalFault.TheVariants.{BadLine, OtherPlan, OtherDay, OtherRules, NotBegun, ReadFailed}
 use Rattle.bx_journal.specs.declared.head.Wanted.{Wanted}
-use Rattle.bx_journal.specs.Events.{AreEvents}
+use Rattle.bx_journal.specs.declared.version.Version.{Version}
+use Rattle.bx_journal.specs.Versions.{head_lines}
+use Rattle.bx_journal.specs.Events.{AreEventsIn}
 use Rattle.bx_journal.specs.Held.{Held}
 use Rattle.bx_journal.specs.Inside.{HasNoLf, HaveNoLf}
 use Rattle.bx_journal.specs.Lines.{line_ended, whole_lines, whole_text}
@@ -23,27 +25,27 @@ use Rattle.bx_journal.proofs.Takings.{takes_then, all_read}
 -- ---- lines of events after a head
 
 -- a line of no event, after those of events
-break_after : (n : ℕ) (events : List LiveEvent) (line : List ℕ) (rest : List (List ℕ)) → AreEvents events → event_on line ≡ None → events_on n (map line_of events ++ line ∷ rest) ≡ Err (BadLine (n + length events))
-break_after n [] line rest are bad = let z : n ≡ n + 0 = omega arith in rw bad (ap (λ k. Err (BadLine k)) z)
-break_after n (e ∷ events) line rest are bad =
+break_after : (v : Version) (n : ℕ) (events : List LiveEvent) (line : List ℕ) (rest : List (List ℕ)) → AreEventsIn v events → event_on v line ≡ None → events_on v n (map line_of events ++ line ∷ rest) ≡ Err (BadLine (n + length events))
+break_after v n [] line rest are bad = let z : n ≡ n + 0 = omega arith in rw bad (ap (λ k. Err (BadLine k)) z)
+break_after v n (e ∷ events) line rest are bad =
     let next : n + 1 + length events ≡ n + length (e ∷ events) = omega arith in
-    rw (event_read e are.0, break_after (n + 1) events line rest are.1 bad, next) refl
+    rw (event_read v e are.0, break_after v (n + 1) events line rest are.1 bad, next) refl
 
-events_then_break : (events : List LiveEvent) (line : List ℕ) (rest : List (List ℕ)) → AreEvents events → event_on line ≡ None → events_to_fault (map line_of events ++ line ∷ rest) ≡ events
-events_then_break [] line rest are bad = rw bad refl
-events_then_break (e ∷ events) line rest are bad = rw (event_read e are.0, events_then_break events line rest are.1 bad) refl
+events_then_break : (v : Version) (events : List LiveEvent) (line : List ℕ) (rest : List (List ℕ)) → AreEventsIn v events → event_on v line ≡ None → events_to_fault v (map line_of events ++ line ∷ rest) ≡ events
+events_then_break v [] line rest are bad = rw bad refl
+events_then_break v (e ∷ events) line rest are bad = rw (event_read v e are.0, events_then_break v events line rest are.1 bad) refl
 
 module _ (wanted : Wanted) (lines : List (List ℕ)) (none : HaveNoLf lines) where
   -- by the lines after it
-  said_of : (r : Result ℕ JournalFault) (more : List ℕ) → head_on wanted (lines ++ whole_lines more) ≡ r → recovered wanted (flat_map line_ended lines ++ more) ≡ events_after r (lines ++ whole_lines more)
-  said_of r more is = ap (journal_events wanted) (lines_then lines more none) ∙ ap (λ (x : Result ℕ JournalFault). events_after x (lines ++ whole_lines more)) is
+  said_of : (r : Result Version JournalFault) (more : List ℕ) → head_on wanted (lines ++ whole_lines more) ≡ r → recovered wanted (flat_map line_ended lines ++ more) ≡ events_after r (lines ++ whole_lines more)
+  said_of r more is = ap (journal_events wanted) (lines_then lines more none) ∙ ap (λ (x : Result Version JournalFault). events_after x (lines ++ whole_lines more)) is
 
-  before_of : (r : Result ℕ JournalFault) (more : List ℕ) → head_on wanted (lines ++ whole_lines more) ≡ r → events_before wanted (flat_map line_ended lines ++ more) ≡ events_after_head r (lines ++ whole_lines more)
-  before_of r more is = ap (λ (ls : List (List ℕ)). events_after_head (head_on wanted ls) ls) (lines_then lines more none) ∙ ap (λ (x : Result ℕ JournalFault). events_after_head x (lines ++ whole_lines more)) is
+  before_of : (r : Result Version JournalFault) (more : List ℕ) → head_on wanted (lines ++ whole_lines more) ≡ r → events_before wanted (flat_map line_ended lines ++ more) ≡ events_after_head r (lines ++ whole_lines more)
+  before_of r more is = ap (λ (ls : List (List ℕ)). events_after_head (head_on wanted ls) ls) (lines_then lines more none) ∙ ap (λ (x : Result Version JournalFault). events_after_head x (lines ++ whole_lines more)) is
 
   -- inside of it
   pub torn_head : (torn : List ℕ) → HasNoLf torn → head_on wanted lines ≡ Err NotBegun → recovered wanted (flat_map line_ended lines ++ torn) ≡ Err NotBegun
-  torn_head torn clean is = ap (journal_events wanted) (lines_whole lines torn none (torn_line torn clean)) ∙ ap (λ (r : Result ℕ JournalFault). events_after r lines) is
+  torn_head torn clean is = ap (journal_events wanted) (lines_whole lines torn none (torn_line torn clean)) ∙ ap (λ (r : Result Version JournalFault). events_after r lines) is
 
   pub fault_in_head : (fault : JournalFault) → ((rest : List (List ℕ)) → head_on wanted (lines ++ rest) ≡ Err fault) → (more : List ℕ) → recovered wanted (flat_map line_ended lines ++ more) ≡ Err fault
   fault_in_head fault is more = said_of (Err fault) more (is (whole_lines more))
@@ -51,40 +53,40 @@ module _ (wanted : Wanted) (lines : List (List ℕ)) (none : HaveNoLf lines) whe
   pub none_before : (fault : JournalFault) → ((rest : List (List ℕ)) → head_on wanted (lines ++ rest) ≡ Err fault) → (more : List ℕ) → events_before wanted (flat_map line_ended lines ++ more) ≡ []
   none_before fault is more = before_of (Err fault) more (is (whole_lines more))
 
-  module _ (n : ℕ) (count : length lines ≡ n) (is : (rest : List (List ℕ)) → head_on wanted (lines ++ rest) ≡ Ok n) where
-    following_head : (more : List ℕ) → recovered wanted (flat_map line_ended lines ++ more) ≡ events_on (n + 1) (whole_lines more)
-    following_head more = said_of (Ok n) more (is (whole_lines more)) ∙ ap (events_on (n + 1)) (drop_at lines (whole_lines more) n count)
+  module _ (v : Version) (count : length lines ≡ head_lines v) (is : (rest : List (List ℕ)) → head_on wanted (lines ++ rest) ≡ Ok v) where
+    following_head : (more : List ℕ) → recovered wanted (flat_map line_ended lines ++ more) ≡ events_on v (head_lines v + 1) (whole_lines more)
+    following_head more = said_of (Ok v) more (is (whole_lines more)) ∙ ap (events_on v (head_lines v + 1)) (drop_at lines (whole_lines more) (head_lines v) count)
 
-    events_of : (more : List ℕ) → events_before wanted (flat_map line_ended lines ++ more) ≡ events_to_fault (whole_lines more)
-    events_of more = before_of (Ok n) more (is (whole_lines more)) ∙ ap events_to_fault (drop_at lines (whole_lines more) n count)
+    events_of : (more : List ℕ) → events_before wanted (flat_map line_ended lines ++ more) ≡ events_to_fault v (whole_lines more)
+    events_of more = before_of (Ok v) more (is (whole_lines more)) ∙ ap (events_to_fault v) (drop_at lines (whole_lines more) (head_lines v) count)
 
-    module _ (events : List LiveEvent) (are : AreEvents events) where
+    module _ (events : List LiveEvent) (are : AreEventsIn v events) where
       pub events_taken : (torn : List ℕ) → HasNoLf torn → recovered wanted (flat_map line_ended lines ++ (lines_text events ++ torn)) ≡ Ok events
       events_taken torn clean =
-          following_head (lines_text events ++ torn) ∙ ap (events_on (n + 1)) (lines_whole (map line_of events) torn (event_lines events are) (torn_line torn clean)) ∙ events_read (n + 1) events are
+          following_head (lines_text events ++ torn) ∙ ap (events_on v (head_lines v + 1)) (lines_whole (map line_of events) torn (event_lines v events are) (torn_line torn clean)) ∙ events_read v (head_lines v + 1) events are
 
       pub journal_taken : (torn : List ℕ) → HasNoLf torn → journal_in wanted (flat_map line_ended lines ++ (lines_text events ++ torn)) ≡ Ok (record { events = events; whole = length (flat_map line_ended lines ++ lines_text events) })
       journal_taken torn clean =
           let text = flat_map line_ended lines ++ (lines_text events ++ torn) in
           let all : whole_lines text ≡ lines ++ map line_of events =
-          lines_then lines (lines_text events ++ torn) none ∙ ap (λ (ls : List (List ℕ)). lines ++ ls) (lines_whole (map line_of events) torn (event_lines events are) (torn_line torn clean)) in
+          lines_then lines (lines_text events ++ torn) none ∙ ap (λ (ls : List (List ℕ)). lines ++ ls) (lines_whole (map line_of events) torn (event_lines v events are) (torn_line torn clean)) in
           ap (with_whole (length (whole_text text))) (events_taken torn clean)
           ∙ ap (λ (ls : List (List ℕ)). Ok (record { events = events; whole = length (flat_map line_ended ls) })) all
           ∙ ap (λ (l : List ℕ). Ok (record { events = events; whole = length l })) (flat_map-append line_ended lines (map line_of events))
 
-      module _ (line : List ℕ) (clean : HasNoLf line) (bad : event_on line ≡ None) (more : List ℕ) where
+      module _ (line : List ℕ) (clean : HasNoLf line) (bad : event_on v line ≡ None) (more : List ℕ) where
         regroup : (flat_map line_ended lines ++ (lines_text events ++ line_ended line)) ++ more ≡ flat_map line_ended lines ++ (lines_text events ++ (line_ended line ++ more))
         regroup = append_assoc (flat_map line_ended lines) (lines_text events ++ line_ended line) more ∙ ap (λ (l : List ℕ). flat_map line_ended lines ++ l) (append_assoc (lines_text events) (line_ended line) more)
 
         broken_lines : whole_lines (lines_text events ++ (line_ended line ++ more)) ≡ map line_of events ++ line ∷ whole_lines more
-        broken_lines = lines_then (map line_of events) (line_ended line ++ more) (event_lines events are) ∙ ap (λ (ls : List (List ℕ)). map line_of events ++ ls) (line_first line more clean)
+        broken_lines = lines_then (map line_of events) (line_ended line ++ more) (event_lines v events are) ∙ ap (λ (ls : List (List ℕ)). map line_of events ++ ls) (line_first line more clean)
 
-        pub broken : recovered wanted ((flat_map line_ended lines ++ (lines_text events ++ line_ended line)) ++ more) ≡ Err (BadLine (n + 1 + length events))
+        pub broken : recovered wanted ((flat_map line_ended lines ++ (lines_text events ++ line_ended line)) ++ more) ≡ Err (BadLine (head_lines v + 1 + length events))
         broken =
-            ap (recovered wanted) regroup ∙ following_head (lines_text events ++ (line_ended line ++ more)) ∙ ap (events_on (n + 1)) broken_lines ∙ break_after (n + 1) events line (whole_lines more) are bad
+            ap (recovered wanted) regroup ∙ following_head (lines_text events ++ (line_ended line ++ more)) ∙ ap (events_on v (head_lines v + 1)) broken_lines ∙ break_after v (head_lines v + 1) events line (whole_lines more) are bad
 
         pub before_break : events_before wanted ((flat_map line_ended lines ++ (lines_text events ++ line_ended line)) ++ more) ≡ events
-        before_break = ap (events_before wanted) regroup ∙ events_of (lines_text events ++ (line_ended line ++ more)) ∙ ap events_to_fault broken_lines ∙ events_then_break events line (whole_lines more) are bad
+        before_break = ap (events_before wanted) regroup ∙ events_of (lines_text events ++ (line_ended line ++ more)) ∙ ap (events_to_fault v) broken_lines ∙ events_then_break v events line (whole_lines more) are bad
 
 -- ---- the whole journal
 
@@ -139,23 +141,23 @@ module _ {F : Type 0} (followed : F → List LiveEvent → F → Type 0) (f g : 
   head_failed faulted ReadFailed h all =
       cut_off (flat_map line_ended h.lines ++ h.taken.torn) h.taken.takes faulted [] h.stopped (inr (torn_head wanted h.lines h.taken.no_lf h.taken.torn h.taken.torn_no_lf h.is, refl)) all
 
-  module _ (middle : Option (List ℕ)) (mid : Held) (n : ℕ) (head : HeadTaken wanted before middle old mid n) where
+  module _ (middle : Option (List ℕ)) (mid : Held) (v : Version) (head : HeadTaken wanted before middle old mid v) where
     following : (xs : List ℕ) → Takes middle after mid new xs → Takes before after old new (flat_map line_ended head.lines ++ xs)
     following xs t = takes_then before middle after old mid new (flat_map line_ended head.lines) xs head.taken.takes t
 
-    pub events_done : (faulted : Bool) (r : Result ℕ JournalFault) → AreEventLines followed f g (n + 1) faulted middle after mid new r → IsFollowed followed faulted before after wanted f g r
+    pub events_done : (faulted : Bool) (r : Result ℕ JournalFault) → AreEventLines followed f g v (head_lines v + 1) faulted middle after mid new r → IsFollowed followed faulted before after wanted f g r
     events_done faulted (Ok whole) o =
         let count : length (flat_map line_ended head.lines ++ lines_text o.events) ≡ whole = omega (arith, o.whole_is, head.taken.takes.count, zero, length-append (flat_map line_ended head.lines) (lines_text o.events)) in
         was_read (flat_map line_ended head.lines ++ (lines_text o.events ++ o.torn)) (following (lines_text o.events ++ o.torn) o.takes) o.events whole o.over
-        (journal_taken wanted head.lines head.taken.no_lf n head.count head.is o.events o.are o.torn o.no_lf ∙ ap (λ k. Ok (record { events = o.events; whole = k })) count) o.followed_all
+        (journal_taken wanted head.lines head.taken.no_lf v head.count head.is o.events o.are o.torn o.no_lf ∙ ap (λ k. Ok (record { events = o.events; whole = k })) count) o.followed_all
     events_done faulted (Err (BadLine k)) o =
         refused (flat_map line_ended head.lines ++ (lines_text o.events ++ line_ended o.line)) (following (lines_text o.events ++ line_ended o.line) o.takes) (BadLine k) o.events
-        (λ more. broken wanted head.lines head.taken.no_lf n head.count head.is o.events o.are o.line o.no_lf o.no_event more ∙ ap (λ m. Err (BadLine m)) (sym o.number))
-        (λ more. before_break wanted head.lines head.taken.no_lf n head.count head.is o.events o.are o.line o.no_lf o.no_event more) o.followed_all
+        (λ more. broken wanted head.lines head.taken.no_lf v head.count head.is o.events o.are o.line o.no_lf o.no_event more ∙ ap (λ m. Err (BadLine m)) (sym o.number))
+        (λ more. before_break wanted head.lines head.taken.no_lf v head.count head.is o.events o.are o.line o.no_lf o.no_event more) o.followed_all
     events_done faulted (Err OtherPlan) o = absurd o
     events_done faulted (Err OtherDay) o = absurd o
     events_done faulted (Err OtherRules) o = absurd o
     events_done faulted (Err NotBegun) o = absurd o
     events_done faulted (Err ReadFailed) o =
         cut_off (flat_map line_ended head.lines ++ (lines_text o.events ++ o.torn)) (following (lines_text o.events ++ o.torn) o.takes) faulted o.events o.stopped
-        (inl (events_taken wanted head.lines head.taken.no_lf n head.count head.is o.events o.are o.torn o.no_lf)) o.followed_all
+        (inl (events_taken wanted head.lines head.taken.no_lf v head.count head.is o.events o.are o.torn o.no_lf)) o.followed_all

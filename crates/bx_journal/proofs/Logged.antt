@@ -5,7 +5,9 @@ use Rattle.std.proofs.lemmas.List.{append-nil, take_all, take_at, take-append-le
 use Rattle.std.proofs.lemmas.Bool.{cases_lt}
 use Rattle.bx_events.specs.Events.{LiveEvent}
 use Rattle.bx_journal.specs.Disk.{IsTorn}
-use Rattle.bx_journal.specs.Events.{IsEvent, AreEvents}
+use Rattle.bx_journal.specs.declared.version.Version.{Version}
+use Rattle.bx_journal.specs.declared.version.Version.TheVariants.{Dated}
+use Rattle.bx_journal.specs.Events.{IsEvent, IsEventIn, AreEvents, AreEventsIn}
 use Rattle.bx_journal.specs.Lines.{line_ended}
 use Rattle.bx_journal.specs.Text.{line_of, rules_line, plan_line, day_line, lines_of, journal_text}
 use Rattle.bx_journal.specs.Heads.{IsJournalDay, wanted_of}
@@ -16,9 +18,9 @@ use Rattle.bx_journal.specs.Logging.{IsSettled, IsPending, IsPrefix}
 use Rattle.bx_journal.proofs.WholeLines.{torn_line, prefix_without_lf}
 use Rattle.bx_journal.proofs.ReadAgain.{line_without_lf, recovered_again}
 
-pub are_more : (es : List LiveEvent) (e : LiveEvent) → AreEvents es → IsEvent e → AreEvents (es ++ e ∷ [])
-are_more [] e are is = (is, tt)
-are_more (x ∷ es) e are is = (are.0, are_more es e are.1 is)
+pub are_more : (v : Version) (es : List LiveEvent) (e : LiveEvent) → AreEventsIn v es → IsEventIn v e → AreEventsIn v (es ++ e ∷ [])
+are_more v [] e are is = (is, tt)
+are_more v (x ∷ es) e are is = (are.0, are_more v es e are.1 is)
 
 pub text_more : (head : Head) (es : List LiveEvent) (e : LiveEvent) → journal_text head (es ++ e ∷ []) ≡ journal_text head es ++ line_ended (line_of e)
 text_more head es e =
@@ -35,10 +37,10 @@ pub prefix_left : (head : Head) (es : List LiveEvent) (e : LiveEvent) (n : ℕ) 
 prefix_left head es e n day are is = elim (cases_lt (length (line_of e)) n) [
   | inl whole ↦
       let all : take n (line_ended (line_of e)) ≡ line_ended (line_of e) = take_all n (line_ended (line_of e)) (omega (arith, length-append (line_of e) (10 ∷ []))) in
-      inr (ap (λ (l : List ℕ). recovered (wanted_of head) (journal_text head es ++ l)) all ∙ ap (recovered (wanted_of head)) (sym (text_more head es e)) ∙ recovered_whole head (es ++ e ∷ []) day (are_more es e are is))
+      inr (ap (λ (l : List ℕ). recovered (wanted_of head) (journal_text head es ++ l)) all ∙ ap (recovered (wanted_of head)) (sym (text_more head es e)) ∙ recovered_whole head (es ++ e ∷ []) day (are_more Dated es e are is))
   | inr torn ↦
       let prefix : take n (line_ended (line_of e)) ≡ take n (line_of e) = take-append-le n (line_of e) (10 ∷ []) torn in
-      inl (ap (λ (l : List ℕ). recovered (wanted_of head) (journal_text head es ++ l)) prefix ∙ recovered_again head es (take n (line_of e)) day are (torn_line _ (prefix_without_lf n (line_of e) (line_without_lf e is))))
+      inl (ap (λ (l : List ℕ). recovered (wanted_of head) (journal_text head es ++ l)) prefix ∙ recovered_again head es (take n (line_of e)) day are (torn_line _ (prefix_without_lf n (line_of e) (line_without_lf Dated e is))))
 ]
 
 -- with one event more, which is not in the journal

@@ -1,5 +1,5 @@
 -- One event after another, and what a crash leaves of them; and the head of a journal.
-use Rattle.std.proofs.Common.{◌≡◌, inl, inr, ⊎_elim, ℕ, zero, suc, ◌+◌, ◌≤◌, ◌<◌, List, [], ◌∷◌, ◌++◌, length, take, map, get_or, Result, ap, ◌∙◌, arith}
+use Rattle.std.proofs.Common.{◌≡◌, inl, inr, ⊎_elim, ℕ, zero, suc, ◌+◌, ◌≤◌, ◌<◌, List, [], ◌∷◌, ◌++◌, length, take, map, get_or, Some, Result, refl, ap, ◌∙◌, arith}
 use Rattle.std.proofs.lemmas.List.{take_more, get_or-map, length-map}
 use Rattle.bx_events.specs.Events.{LiveEvent, WithoutLink}
 use Rattle.bx_events.specs.declared.event.LiveEvent as rust_live
@@ -12,11 +12,13 @@ use Rattle.bx_journal.specs.Heads.{IsJournalDay, wanted_of}
 use Rattle.bx_journal.specs.Text.{lines_of, journal_text}
 use Rattle.bx_journal.specs.declared.fault.JournalFault.{JournalFault}
 use Rattle.bx_journal.specs.declared.head.Head.{Head}
+use Rattle.bx_journal.specs.declared.version.Version.{Version}
+use Rattle.bx_journal.specs.declared.version.Version.TheVariants.{Dated}
 use Rattle.bx_journal.specs.Reading.{events_after, journal_events}
 use Rattle.bx_journal.specs.Logging.{IsUnbegun}
 use Rattle.bx_journal.proofs.WholeLines.{prefix_of}
 use Rattle.bx_journal.proofs.HeadLines.{one_line, two_lines}
-use Rattle.bx_journal.proofs.ReadAgain.{own, lines_without_lf, lines_read}
+use Rattle.bx_journal.proofs.ReadAgain.{own, read_anywhere, lines_without_lf, lines_read}
 
 -- a run goes on by another
 pub leaves_then : {D : Type 0} (moment : D → ℕ) (left_since : D → ℕ → List ℕ → Type 0) (old mid new : D) (P Q : List ℕ → Type 0) → LeavesOnly moment left_since old mid P → LeavesOnly moment left_since mid new Q
@@ -36,12 +38,12 @@ more_of events i lt =
 module _ (head : Head) (day : IsJournalDay head.day) where
   first_lines : (k : ℕ) (octets : List ℕ) → whole_lines octets ≡ take k (lines_of head []) → k ≤ 3 → IsUnbegun head octets
   first_lines zero octets are few = inl (ap (journal_events (wanted_of head)) are)
-  first_lines (suc zero) octets are few = inl (ap (journal_events (wanted_of head)) are ∙ ap (λ (r : Result ℕ JournalFault). events_after r (take 1 (lines_of head []))) (one_line (wanted_of head) head (own head) day))
-  first_lines (suc (suc zero)) octets are few = inl (ap (journal_events (wanted_of head)) are ∙ ap (λ (r : Result ℕ JournalFault). events_after r (take 2 (lines_of head []))) (two_lines (wanted_of head) head (own head) day))
-  first_lines (suc (suc (suc zero))) octets are few = inr (ap (journal_events (wanted_of head)) are ∙ lines_read (wanted_of head) head [] (own head) day tt)
+  first_lines (suc zero) octets are few = inl (ap (journal_events (wanted_of head)) are ∙ ap (λ (r : Result Version JournalFault). events_after r (take 1 (lines_of head []))) (one_line (wanted_of head) head (own head) day Dated (read_anywhere (Some head.day))))
+  first_lines (suc (suc zero)) octets are few = inl (ap (journal_events (wanted_of head)) are ∙ ap (λ (r : Result Version JournalFault). events_after r (take 2 (lines_of head []))) (two_lines (wanted_of head) head (own head) day Dated (read_anywhere (Some head.day)) refl))
+  first_lines (suc (suc (suc zero))) octets are few = inr (ap (journal_events (wanted_of head)) are ∙ lines_read Dated (wanted_of head) head [] (read_anywhere (Some head.day)) (own head) day tt)
   first_lines (suc (suc (suc (suc k)))) octets are few = absurd (omega (arith, few))
 
   pub head_prefix : (n : ℕ) → IsUnbegun head (take n (journal_text head []))
   head_prefix n =
-      let f = prefix_of (lines_of head []) n (lines_without_lf head [] day tt) in
+      let f = prefix_of (lines_of head []) n (lines_without_lf Dated head [] day tt) in
       first_lines f.count (take n (journal_text head [])) f.are f.within

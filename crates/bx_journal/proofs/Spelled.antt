@@ -1,27 +1,30 @@
 -- What is read is spelled so.
-use Rattle.std.proofs.Common.{codes, ◌≡◌, ◌⊎◌, inl, inr, ℕ, zero, suc, ◌+◌, ◌-◌, ◌*◌, ◌/◌, ◌%◌, ◌≤◌, ◌<◌, ◌==◌, ◌&&◌, Bool, true, false, cond, leb, nat_le, List, [], ◌∷◌, ◌++◌, length, take, drop, get_or, map, Option, Some, None, Result, Ok, Err, refl, ap, sym, ◌∙◌, subst, arith, length-append, take-append-drop}
+use Rattle.std.proofs.Common.{codes, ◌≡◌, ℕ, zero, suc, ◌+◌, ◌-◌, ◌*◌, ◌/◌, ◌%◌, ◌≤◌, ◌<◌, ◌==◌, ◌&&◌, Bool, true, false, cond, leb, nat_le, List, [], ◌∷◌, ◌++◌, length, take, drop, get_or, map, Option, Some, None, Result, Ok, Err, refl, ap, sym, ◌∙◌, subst, arith, length-append, take-append-drop}
 use Rattle.std.specs.Str.{bytes_eq}
 use Rattle.std.specs.List.{flat_map, list_all}
 use Rattle.std.specs.Option.{option_map}
 use Rattle.std.proofs.lemmas.List.{take_at, drop_at}
 use Rattle.std.proofs.lemmas.Bool.{eqb-true, leb-true, lt-ltb, le-ltb, and_parts}
 use Rattle.std.proofs.lemmas.Slice.Eq.{bytes_eq-Decides}
-use Rattle.bx_events.specs.Events.{Tick, LiveEvent, OnLink, WithoutLink, Sold}
+use Rattle.bx_events.specs.Events.{Tick, Receive, LiveEvent, OnLink, WithoutLink, Sold, HeardByRulesTwo}
 use Rattle.bx_journal.specs.declared.fault.JournalFault.{JournalFault}
-use Rattle.bx_journal.specs.Events.{AreOctets, IsEvent, AreEvents, is_printable}
+use Rattle.bx_journal.specs.declared.version.Version.{Version}
+use Rattle.bx_journal.specs.declared.version.Version.TheVariants.{Undated, Older, Dated}
+use Rattle.bx_journal.specs.Versions.{has_day, head_lines, is_older, IsReadWhere}
+use Rattle.bx_journal.specs.Events.{AreOctets, IsEventIn, AreEvents, AreEventsIn, is_printable}
 use Rattle.bx_journal.specs.Hex.{hex_digit, hex_of, hex_value, octet_of_digits, octets_of_digits, after_octet}
 use Rattle.bx_journal.specs.Lines.{whole_lines, whole_text, line_ended, onto}
 use Rattle.bx_journal.specs.Inside.{HasNoLf, HaveNoLf}
-use Rattle.bx_journal.specs.Text.{line_of, rules_line, plan_line, day_line, lines_of, journal_text, undated_lines}
+use Rattle.bx_journal.specs.Text.{line_of, first_line, plan_line, day_line, day_lines, lines_in, lines_of, journal_text}
 use Rattle.bx_journal.specs.Reading.{event_on, heard_on, heard_event, sold_on, events_on, with_event, head_on, events_after, journal_events, recovered, Recovery, journal_in, with_whole, IsJournalText}
 use Rattle.bx_journal.specs.Heads.{IsJournalDay, IsWanted, wanted_of}
 use Rattle.bx_journal.specs.declared.head.Head.{Head}
 use Rattle.bx_journal.specs.declared.head.JournalDay.{JournalDay}
-use Rattle.bx_journal.specs.declared.head.TheConstants.{RULES}
 use Rattle.bx_journal.specs.declared.head.Wanted.{Wanted}
 use Rattle.bx_journal.proofs.Digits.{hex_length}
 use Rattle.bx_journal.proofs.WholeLines.{lines_whole, torn_line, prefix_without_lf, take_past}
-use Rattle.bx_journal.proofs.HeadLines.{IsDated, IsUndated, head_spelled}
+use Rattle.bx_journal.proofs.HeadLines.{IsHeadOf, head_spelled}
+use Rattle.bx_journal.proofs.ReadAgain.{after_head}
 
 -- a text is its whole lines, and octets without LF
 pub record Split (bytes lines : List ℕ) : Type 0 where
@@ -98,120 +101,127 @@ octets_spelled ten [] os e = subst (AreDigitsOf ten []) (some_inj _ _ e) (record
 octets_spelled ten (d ∷ []) os e = absurd cc
 octets_spelled ten (h ∷ l ∷ ds) os e = pair ten h l ds os (hex_value ten h) (hex_value ten l) (octets_of_digits ten ds) refl refl (λ xs is. octets_spelled ten ds xs is) e
 
-pub record IsLineOf (line : List ℕ) (e : LiveEvent) : Type 0 where
+pub record IsLineOf (v : Version) (line : List ℕ) (e : LiveEvent) : Type 0 where
   pub spelled : line ≡ line_of e
-  pub octets : IsEvent e
+  pub octets : IsEventIn v e
 
-heard : (line : List ℕ) (o : Option (List ℕ)) (e : LiveEvent) → length (drop 6 line) ≤ 520 → octets_of_digits 65 (drop 6 line) ≡ o → take 6 line ≡ codes "heard " → option_map heard_event o ≡ Some e → IsLineOf line e
-heard line None e few is word some = absurd cc
-heard line (Some os) e few is word some =
+heard_by : (t : Bool) (v : Version) (line os : List ℕ) → is_older v ≡ t → line ≡ codes "heard " ++ hex_of 65 os → AreOctets os → length os ≤ 260 → IsLineOf v line (cond t (HeardByRulesTwo os) (OnLink (Receive os)))
+heard_by true v line os older text octets short = record { spelled = text; octets = (octets, (older, short)) }
+heard_by false v line os newer text octets short = record { spelled = text; octets = (octets, (newer, short)) }
+
+heard : (v : Version) (line : List ℕ) (o : Option (List ℕ)) (e : LiveEvent) → length (drop 6 line) ≤ 520 → octets_of_digits 65 (drop 6 line) ≡ o → take 6 line ≡ codes "heard " → option_map (heard_event v) o ≡ Some e → IsLineOf v line e
+heard v line None e few is word some = absurd cc
+heard v line (Some os) e few is word some =
     let ds = octets_spelled 65 (drop 6 line) os is in
     let short : length os ≤ 260 = omega (arith, few, ap length ds.spelled, hex_length 65 os) in
-    subst (IsLineOf line) (some_inj _ _ some) (record {
-      spelled = sym (take-append-drop 6 line) ∙ ap (λ (l : List ℕ). l ++ drop 6 line) word ∙ ap (λ (l : List ℕ). codes "heard " ++ l) ds.spelled;
-      octets = (ds.octets, short);
-    })
+    let text : line ≡ codes "heard " ++ hex_of 65 os = sym (take-append-drop 6 line) ∙ ap (λ (l : List ℕ). l ++ drop 6 line) word ∙ ap (λ (l : List ℕ). codes "heard " ++ l) ds.spelled in
+    subst (IsLineOf v line) (some_inj _ _ some) (heard_by (is_older v) v line os refl text ds.octets short)
 
-limited : (few : Bool) (line : List ℕ) (e : LiveEvent) → leb (length (drop 6 line)) 520 ≡ few → take 6 line ≡ codes "heard " → cond few (option_map heard_event (octets_of_digits 65 (drop 6 line))) None ≡ Some e → IsLineOf line e
-limited true line e few word some = heard line (octets_of_digits 65 (drop 6 line)) e (leb-true _ _ few) refl word some
-limited false line e few word some = absurd cc
+limited : (v : Version) (few : Bool) (line : List ℕ) (e : LiveEvent) → leb (length (drop 6 line)) 520 ≡ few → take 6 line ≡ codes "heard " → cond few (option_map (heard_event v) (octets_of_digits 65 (drop 6 line))) None ≡ Some e → IsLineOf v line e
+limited v true line e few word some = heard v line (octets_of_digits 65 (drop 6 line)) e (leb-true _ _ few) refl word some
+limited v false line e few word some = absurd cc
 
-sold : (fine : Bool) (line : List ℕ) (e : LiveEvent) → (nat_le (length (drop 5 line)) 120 && list_all is_printable (drop 5 line)) ≡ fine → take 5 line ≡ codes "sold " → cond fine (Some (Sold (drop 5 line))) None ≡ Some e → IsLineOf line e
-sold true line e fine word some =
+sold : (v : Version) (fine : Bool) (line : List ℕ) (e : LiveEvent) → (nat_le (length (drop 5 line)) 120 && list_all is_printable (drop 5 line)) ≡ fine → take 5 line ≡ codes "sold " → cond fine (Some (Sold (drop 5 line))) None ≡ Some e → IsLineOf v line e
+sold v true line e fine word some =
     let p = and_parts (nat_le (length (drop 5 line)) 120) (list_all is_printable (drop 5 line)) fine in
-    subst (IsLineOf line) (some_inj _ _ some) (record {
+    subst (IsLineOf v line) (some_inj _ _ some) (record {
       spelled = sym (take-append-drop 5 line) ∙ ap (λ (l : List ℕ). l ++ drop 5 line) word;
       octets = (tt, (leb-true _ _ p.0, p.1));
     })
-sold false line e fine word some = absurd cc
+sold v false line e fine word some = absurd cc
 
-forms : (t d h s : Bool) (line : List ℕ) (e : LiveEvent) → bytes_eq line (codes "tick") ≡ t → bytes_eq line (codes "down") ≡ d → bytes_eq (take 6 line) (codes "heard ") ≡ h → bytes_eq (take 5 line) (codes "sold ") ≡ s
-    → cond t (Some (OnLink Tick)) (cond d (Some WithoutLink) (cond h (heard_on (drop 6 line)) (cond s (sold_on (drop 5 line)) None))) ≡ Some e → IsLineOf line e
-forms true d h s line e is down word sells some = subst (IsLineOf line) (some_inj _ _ some) (record { spelled = (bytes_eq-Decides line (codes "tick")).0 is; octets = (tt, tt) })
-forms false true h s line e is down word sells some = subst (IsLineOf line) (some_inj _ _ some) (record { spelled = (bytes_eq-Decides line (codes "down")).0 down; octets = (tt, tt) })
-forms false false true s line e is down word sells some = limited (leb (length (drop 6 line)) 520) line e refl ((bytes_eq-Decides (take 6 line) (codes "heard ")).0 word) some
-forms false false false true line e is down word sells some = sold (nat_le (length (drop 5 line)) 120 && list_all is_printable (drop 5 line)) line e refl ((bytes_eq-Decides (take 5 line) (codes "sold ")).0 sells) some
-forms false false false false line e is down word sells some = absurd cc
+forms : (v : Version) (t d h s : Bool) (line : List ℕ) (e : LiveEvent) → bytes_eq line (codes "tick") ≡ t → bytes_eq line (codes "down") ≡ d → bytes_eq (take 6 line) (codes "heard ") ≡ h → bytes_eq (take 5 line) (codes "sold ") ≡ s
+    → cond t (Some (OnLink Tick)) (cond d (Some WithoutLink) (cond h (heard_on v (drop 6 line)) (cond s (sold_on (drop 5 line)) None))) ≡ Some e → IsLineOf v line e
+forms v true d h s line e is down word sells some = subst (IsLineOf v line) (some_inj _ _ some) (record { spelled = (bytes_eq-Decides line (codes "tick")).0 is; octets = (tt, tt) })
+forms v false true h s line e is down word sells some = subst (IsLineOf v line) (some_inj _ _ some) (record { spelled = (bytes_eq-Decides line (codes "down")).0 down; octets = (tt, tt) })
+forms v false false true s line e is down word sells some = limited v (leb (length (drop 6 line)) 520) line e refl ((bytes_eq-Decides (take 6 line) (codes "heard ")).0 word) some
+forms v false false false true line e is down word sells some = sold v (nat_le (length (drop 5 line)) 120 && list_all is_printable (drop 5 line)) line e refl ((bytes_eq-Decides (take 5 line) (codes "sold ")).0 sells) some
+forms v false false false false line e is down word sells some = absurd cc
 
-pub line_spelled : (line : List ℕ) (e : LiveEvent) → event_on line ≡ Some e → IsLineOf line e
-line_spelled line e some = forms (bytes_eq line (codes "tick")) (bytes_eq line (codes "down")) (bytes_eq (take 6 line) (codes "heard ")) (bytes_eq (take 5 line) (codes "sold ")) line e refl refl refl refl some
+pub line_spelled : (v : Version) (line : List ℕ) (e : LiveEvent) → event_on v line ≡ Some e → IsLineOf v line e
+line_spelled v line e some = forms v (bytes_eq line (codes "tick")) (bytes_eq line (codes "down")) (bytes_eq (take 6 line) (codes "heard ")) (bytes_eq (take 5 line) (codes "sold ")) line e refl refl refl refl some
 
 abbrev the_ok : List LiveEvent → Result (List LiveEvent) JournalFault
 the_ok x = Ok x
 
-pub record AreLinesOf (lines : List (List ℕ)) (es : List LiveEvent) : Type 0 where
+pub record AreLinesOf (v : Version) (lines : List (List ℕ)) (es : List LiveEvent) : Type 0 where
   pub spelled : lines ≡ map line_of es
-  pub octets : AreEvents es
+  pub octets : AreEventsIn v es
 
 ok_inj : (x y : List LiveEvent) → the_ok x ≡ the_ok y → x ≡ y
 ok_inj x y e = cc
 
-one : (n : ℕ) (line : List ℕ) (lines : List (List ℕ)) (es : List LiveEvent) (o : Option LiveEvent) (r : Result (List LiveEvent) JournalFault) → event_on line ≡ o → ((xs : List LiveEvent) → r ≡ Ok xs → AreLinesOf lines xs) → with_event n o r ≡ Ok es → AreLinesOf (line ∷ lines) es
-one n line lines es None r is more e = absurd cc
-one n line lines es (Some x) (Err f) is more e = absurd cc
-one n line lines es (Some x) (Ok xs) is more e =
-    let first = line_spelled line x is in
+one : (v : Version) (n : ℕ) (line : List ℕ) (lines : List (List ℕ)) (es : List LiveEvent) (o : Option LiveEvent) (r : Result (List LiveEvent) JournalFault) → event_on v line ≡ o → ((xs : List LiveEvent) → r ≡ Ok xs → AreLinesOf v lines xs) → with_event n o r ≡ Ok es
+    → AreLinesOf v (line ∷ lines) es
+one v n line lines es None r is more e = absurd cc
+one v n line lines es (Some x) (Err f) is more e = absurd cc
+one v n line lines es (Some x) (Ok xs) is more e =
+    let first = line_spelled v line x is in
     let rest = more xs refl in
-    subst (AreLinesOf (line ∷ lines)) (ok_inj _ _ e) (record { spelled = rw (first.spelled, rest.spelled) refl; octets = (first.octets, rest.octets) })
+    subst (AreLinesOf v (line ∷ lines)) (ok_inj _ _ e) (record { spelled = rw (first.spelled, rest.spelled) refl; octets = (first.octets, rest.octets) })
 
-pub lines_spelled : (n : ℕ) (lines : List (List ℕ)) (es : List LiveEvent) → events_on n lines ≡ Ok es → AreLinesOf lines es
-lines_spelled n [] es e = subst (AreLinesOf []) (ok_inj _ _ e) (record { spelled = refl; octets = tt })
-lines_spelled n (line ∷ lines) es e = one n line lines es (event_on line) (events_on (n + 1) lines) refl (λ xs is. lines_spelled (n + 1) lines xs is) e
+pub lines_spelled : (v : Version) (n : ℕ) (lines : List (List ℕ)) (es : List LiveEvent) → events_on v n lines ≡ Ok es → AreLinesOf v lines es
+lines_spelled v n [] es e = subst (AreLinesOf v []) (ok_inj _ _ e) (record { spelled = refl; octets = tt })
+lines_spelled v n (line ∷ lines) es e = one v n line lines es (event_on v line) (events_on v (n + 1) lines) refl (λ xs is. lines_spelled v (n + 1) lines xs is) e
 
--- the lines of a head that is wanted, or of version 1, and of these events
-pub record AreLinesDated (wanted : Wanted) (lines : List (List ℕ)) (es : List LiveEvent) : Type 0 where
+-- the lines of a head that is wanted, and of these events
+pub record AreLines (wanted : Wanted) (lines : List (List ℕ)) (es : List LiveEvent) : Type 0 where
+  pub version : Version
+  pub is_read : IsReadWhere version wanted.day
   pub head : Head
   pub is_wanted : IsWanted wanted head
   pub day : IsJournalDay head.day
-  pub are : lines ≡ lines_of head es
-  pub events : AreEvents es
+  pub events : AreEventsIn version es
+  pub are : lines ≡ lines_in version head es
 
-pub record AreLinesUndated (wanted : Wanted) (lines : List (List ℕ)) (es : List LiveEvent) : Type 0 where
-  pub none : wanted.day ≡ None
-  pub are : lines ≡ undated_lines wanted.plan es
-  pub events : AreEvents es
+following_head : (wanted : Wanted) (lines : List (List ℕ)) (es : List LiveEvent) (v : Version) → IsHeadOf wanted lines v → events_on v (head_lines v + 1) (drop (head_lines v) lines) ≡ Ok es → AreLines wanted lines es
+following_head wanted lines es v d e =
+    let past : drop (head_lines v) lines ≡ d.rest = ap (drop (head_lines v)) d.are ∙ after_head (has_day v) (first_line v) (plan_line d.head.plan) (day_line d.head.day) d.rest in
+    let rest = lines_spelled v (head_lines v + 1) d.rest es (ap (events_on v (head_lines v + 1)) (sym past) ∙ e) in
+    record {
+      version = v;
+      is_read = d.is_read;
+      head = d.head;
+      is_wanted = d.is_wanted;
+      day = d.day;
+      events = rest.octets;
+      are = d.are ∙ ap (λ (ls : List (List ℕ)). first_line v ∷ plan_line d.head.plan ∷ (day_lines v d.head.day ++ ls)) rest.spelled;
+    }
 
-abbrev pub AreLines : Wanted → List (List ℕ) → List LiveEvent → Type 0
-AreLines wanted lines es = AreLinesDated wanted lines es ⊎ AreLinesUndated wanted lines es
-
-following_head : (wanted : Wanted) (lines : List (List ℕ)) (es : List LiveEvent) (n : ℕ) → IsDated wanted lines n ⊎ IsUndated wanted lines n → events_on (n + 1) (drop n lines) ≡ Ok es → AreLines wanted lines es
-following_head wanted lines es n (inl d) e =
-    let at : events_on 4 d.rest ≡ Ok es = sym (ap (λ (ls : List (List ℕ)). events_on 4 (drop 3 ls)) d.are) ∙ ap (λ k. events_on (k + 1) (drop k lines)) (sym d.count) ∙ e in
-    let rest = lines_spelled 4 d.rest es at in
-    inl (record { head = d.head; is_wanted = d.is_wanted; day = d.day; are = d.are ∙ ap (λ (ls : List (List ℕ)). rules_line RULES ∷ plan_line d.head.plan ∷ day_line d.head.day ∷ ls) rest.spelled; events = rest.octets })
-following_head wanted lines es n (inr u) e =
-    let at : events_on 3 u.rest ≡ Ok es = sym (ap (λ (ls : List (List ℕ)). events_on 3 (drop 2 ls)) u.are) ∙ ap (λ k. events_on (k + 1) (drop k lines)) (sym u.count) ∙ e in
-    let rest = lines_spelled 3 u.rest es at in
-    inr (record { none = u.none; are = u.are ∙ ap (λ (ls : List (List ℕ)). codes "bx-journal 1" ∷ plan_line wanted.plan ∷ ls) rest.spelled; events = rest.octets })
-
-by_head : (wanted : Wanted) (lines : List (List ℕ)) (es : List LiveEvent) (r : Result ℕ JournalFault) → head_on wanted lines ≡ r → events_after r lines ≡ Ok es → AreLines wanted lines es
+by_head : (wanted : Wanted) (lines : List (List ℕ)) (es : List LiveEvent) (r : Result Version JournalFault) → head_on wanted lines ≡ r → events_after r lines ≡ Ok es → AreLines wanted lines es
 by_head wanted lines es (Err f) is e = absurd cc
-by_head wanted lines es (Ok n) is e = following_head wanted lines es n (head_spelled wanted n lines is) e
+by_head wanted lines es (Ok v) is e = following_head wanted lines es v (head_spelled wanted v lines is) e
 
 pub all_lines : (wanted : Wanted) (lines : List (List ℕ)) (es : List LiveEvent) → journal_events wanted lines ≡ Ok es → AreLines wanted lines es
 all_lines wanted lines es e = by_head wanted lines es (head_on wanted lines) refl e
 
--- the same where a head is wanted
-own_lines_by : (head : Head) (lines : List (List ℕ)) (es : List LiveEvent) → AreLines (wanted_of head) lines es → (lines ≡ lines_of head es) × IsJournalDay head.day × AreEvents es
-own_lines_by head lines es (inl d) =
-    let same : d.head ≡ head = one_head head d.head d.is_wanted.plan d.is_wanted.day in
-    (d.are ∙ ap (λ (h : Head). lines_of h es) same, subst (λ (h : Head). IsJournalDay h.day) same d.day, d.events) where
-      one_head : (p q : Head) → p.plan ≡ q.plan → p.day ≡ q.day → q ≡ p
-      one_head p q plan day = sym (ap (λ (l : List ℕ). record { plan = l; day = p.day }) plan ∙ ap (λ (d : JournalDay). record { plan = q.plan; day = d }) day)
-own_lines_by head lines es (inr u) = absurd (some_is_none head.day u.none) where
+-- ---- the same where a head is wanted
+
+-- no exchange goes on by the older rules
+newest : (v : Version) (day : JournalDay) → IsReadWhere v (Some day) → v ≡ Dated
+newest Undated day read = absurd (some_is_none day (read refl)) where
   some_is_none : (day : JournalDay) → Some day ≡ None → ⊥
   some_is_none day e = absurd cc
+newest Older day read = absurd (some_is_none day (read refl)) where
+  some_is_none : (day : JournalDay) → Some day ≡ None → ⊥
+  some_is_none day e = absurd cc
+newest Dated day read = refl
+
+one_head : (p q : Head) → p.plan ≡ q.plan → p.day ≡ q.day → q ≡ p
+one_head p q plan day = sym (ap (λ (l : List ℕ). record { plan = l; day = p.day }) plan ∙ ap (λ (d : JournalDay). record { plan = q.plan; day = d }) day)
 
 pub own_lines : (head : Head) (lines : List (List ℕ)) (es : List LiveEvent) → journal_events (wanted_of head) lines ≡ Ok es → (lines ≡ lines_of head es) × IsJournalDay head.day × AreEvents es
-own_lines head lines es e = own_lines_by head lines es (all_lines (wanted_of head) lines es e)
+own_lines head lines es e =
+    let d = all_lines (wanted_of head) lines es e in
+    let new : d.version ≡ Dated = newest d.version head.day d.is_read in
+    let same : d.head ≡ head = one_head head d.head d.is_wanted.plan d.is_wanted.day in
+    (d.are ∙ ap (λ (v : Version). lines_in v d.head es) new ∙ ap (λ (h : Head). lines_of h es) same, subst (λ (h : Head). IsJournalDay h.day) same d.day, subst (λ (v : Version). AreEventsIn v es) new d.events)
 
 -- the text of what is read, and octets without LF after it
-text_by : (wanted : Wanted) (text : List ℕ) (lines : List (List ℕ)) (es : List LiveEvent) → text ≡ flat_map line_ended lines → AreLines wanted lines es → IsJournalText wanted es text × AreEvents es
-text_by wanted text lines es is (inl d) = (inl (record { head = d.head; is_wanted = d.is_wanted; is_day = d.day; is = is ∙ ap (flat_map line_ended) d.are }), d.events)
-text_by wanted text lines es is (inr u) = (inr (u.none, is ∙ ap (flat_map line_ended) u.are), u.events)
-
-pub recovered_text : (wanted : Wanted) (bytes : List ℕ) (es : List LiveEvent) → recovered wanted bytes ≡ Ok es → IsJournalText wanted es (whole_text bytes) × AreEvents es
-recovered_text wanted bytes es e = text_by wanted (whole_text bytes) (whole_lines bytes) es refl (all_lines wanted (whole_lines bytes) es e)
+pub recovered_text : (wanted : Wanted) (bytes : List ℕ) (es : List LiveEvent) → recovered wanted bytes ≡ Ok es → IsJournalText wanted es (whole_text bytes)
+recovered_text wanted bytes es e =
+    let d = all_lines wanted (whole_lines bytes) es e in
+    record { version = d.version; is_read = d.is_read; head = d.head; is_wanted = d.is_wanted; is_day = d.day; events_are = d.events; is = ap (flat_map line_ended) d.are }
 
 -- ---- cutting off what is torn
 
@@ -267,11 +277,11 @@ recovery_parts wanted bytes r e = recovery (length (whole_text bytes)) wanted by
 taken_whole : (wanted : Wanted) (bytes : List ℕ) (r : Recovery) → IsRecovery wanted bytes r → take r.whole bytes ≡ whole_text bytes
 taken_whole wanted bytes r p = ap (λ k. take k bytes) p.whole ∙ whole_prefix bytes
 
-pub prefix_spelled : (wanted : Wanted) (bytes : List ℕ) (r : Recovery) → journal_in wanted bytes ≡ Ok r → IsJournalText wanted r.events (take r.whole bytes) × (whole_lines (drop r.whole bytes) ≡ []) × AreEvents r.events
+pub prefix_spelled : (wanted : Wanted) (bytes : List ℕ) (r : Recovery) → journal_in wanted bytes ≡ Ok r → IsJournalText wanted r.events (take r.whole bytes) × (whole_lines (drop r.whole bytes) ≡ [])
 prefix_spelled wanted bytes r e =
     let p = recovery_parts wanted bytes r e in
     let t = recovered_text wanted bytes r.events p.events in
-    (subst (IsJournalText wanted r.events) (sym (taken_whole wanted bytes r p)) t.0, ap (λ k. whole_lines (drop k bytes)) p.whole ∙ torn_after bytes, t.1)
+    (subst (IsJournalText wanted r.events) (sym (taken_whole wanted bytes r p)) t, ap (λ k. whole_lines (drop k bytes)) p.whole ∙ torn_after bytes)
 
 -- the same where a head is wanted
 pub record IsOwn (head : Head) (bytes : List ℕ) (r : Recovery) : Type 0 where

@@ -1,7 +1,7 @@
 -- What may be logged.
-use Rattle.std.specs.Prelude.{◌≡◌, ℕ, ◌≤◌, ◌<◌, ◌&&◌, nat_le, Bool, true, List, [], ◌∷◌, length, slice_index, slice_index_or}
+use Rattle.std.specs.Prelude.{◌≡◌, ℕ, ◌≤◌, ◌<◌, ◌&&◌, nat_le, Bool, true, false, List, [], ◌∷◌, length, slice_index, slice_index_or}
 use Rattle.std.specs.List.{list_all}
-use Rattle.bx_events.specs.Events.{Tick, Receive, LiveEvent, OnLink, WithoutLink, Sold}
+use Rattle.bx_events.specs.Events.{Tick, Receive, LiveEvent, OnLink, WithoutLink, Sold, HeardByRulesTwo}
 use Rattle.bx_events.specs.Told.{live_event_of}
 use Rattle.bx_events.specs.declared.event.LiveEvent.TheVariants as rust
 use Rattle.bx_events.specs.declared.event.Event.TheVariants as plain
@@ -9,17 +9,22 @@ use Rattle.bx_events.specs.declared.event.LiveEvent as rust_live
 use Rattle.bx_q931.specs.declared.reading.TheConstants.{MAX_MESSAGE}
 use Rattle.bx_journal.specs.declared.event.LoggedEvent.{LoggedEvent}
 use Rattle.bx_journal.specs.declared.event.LoggedEvent.TheVariants as logged
+use Rattle.bx_journal.specs.declared.version.Version.{Version}
+use Rattle.bx_journal.specs.declared.version.Version.TheVariants.{Dated}
+use Rattle.bx_journal.specs.Versions.{is_older}
 
 -- printable ASCII
 abbrev pub is_printable : ℕ → Bool
 is_printable octet = nat_le 32 octet && nat_le octet 126
 
--- what came is no longer than the longest message, and what is sold is printable, and no longer than its line may be
+-- what came is no longer than the longest message, and what is sold is printable, and no longer than its line may be; nothing comes to
+-- an exchange of the older rules any more
 abbrev pub IsLoggable : LiveEvent → Type 0
 IsLoggable (OnLink Tick) = Unit {0}
 IsLoggable (OnLink (Receive octets)) = length octets ≤ MAX_MESSAGE
 IsLoggable WithoutLink = Unit {0}
 IsLoggable (Sold booking) = (length booking ≤ 120) × (list_all is_printable booking ≡ true)
+IsLoggable (HeardByRulesTwo octets) = ⊥
 
 abbrev pub AreOctets : List ℕ → Type 0
 AreOctets octets = (i : ℕ) → slice_index octets i < 256
@@ -29,14 +34,30 @@ HasOctets (OnLink Tick) = Unit {0}
 HasOctets (OnLink (Receive octets)) = AreOctets octets
 HasOctets WithoutLink = Unit {0}
 HasOctets (Sold booking) = Unit {0}
+HasOctets (HeardByRulesTwo octets) = AreOctets octets
 
--- an event that has a line: what came are octets, and no more than a message has
+-- what a journal of this version may have: what came to an exchange of the older rules is in one by these, and in no other
+abbrev pub IsKept : Version → LiveEvent → Type 0
+IsKept version (OnLink Tick) = Unit {0}
+IsKept version (OnLink (Receive octets)) = (is_older version ≡ false) × (length octets ≤ MAX_MESSAGE)
+IsKept version WithoutLink = Unit {0}
+IsKept version (Sold booking) = (length booking ≤ 120) × (list_all is_printable booking ≡ true)
+IsKept version (HeardByRulesTwo octets) = (is_older version ≡ true) × (length octets ≤ MAX_MESSAGE)
+
+-- an event that has a line in a journal of this version: what came are octets, and no more than a message has
+abbrev pub IsEventIn : Version → LiveEvent → Type 0
+IsEventIn version event = HasOctets event × IsKept version event
+
+abbrev pub AreEventsIn : Version → List LiveEvent → Type 0
+AreEventsIn version [] = Unit {0}
+AreEventsIn version (event ∷ events) = IsEventIn version event × AreEventsIn version events
+
+-- the same of the journals that are written
 abbrev pub IsEvent : LiveEvent → Type 0
-IsEvent event = HasOctets event × IsLoggable event
+IsEvent event = IsEventIn Dated event
 
 abbrev pub AreEvents : List LiveEvent → Type 0
-AreEvents [] = Unit {0}
-AreEvents (event ∷ events) = IsEvent event × AreEvents events
+AreEvents events = AreEventsIn Dated events
 
 -- none of them is longer than the longest message
 abbrev pub AreMessages : List rust_live.LiveEvent → Type 0
@@ -48,3 +69,4 @@ logged_event logged.Tick = OnLink Tick
 logged_event (logged.Heard octets) = OnLink (Receive octets.items)
 logged_event logged.Down = WithoutLink
 logged_event (logged.Sold booking) = Sold booking.items
+logged_event (logged.HeardByRulesTwo octets) = HeardByRulesTwo octets.items

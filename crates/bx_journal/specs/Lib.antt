@@ -1,5 +1,6 @@
 pub mod Lines
 pub mod Hex
+pub mod Versions
 pub mod Events
 pub mod Heads
 pub mod Numbers

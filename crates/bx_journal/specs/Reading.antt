@@ -1,31 +1,33 @@
 -- What a text is read as, or its first fault.
-use Rattle.std.specs.Prelude.{◌≡◌, ◌⊎◌, ℕ, ◌+◌, ◌==◌, ◌&&◌, nat_le, Bool, true, false, List, [], ◌∷◌, length, take, drop, Option, Some, None, Result, Ok, Err, codes, if◌then◌else◌}
+use Rattle.std.specs.Prelude.{◌≡◌, ℕ, ◌+◌, ◌==◌, ◌&&◌, nat_le, Bool, true, false, List, [], ◌∷◌, length, take, drop, Option, Some, None, Result, Ok, Err, codes, if◌then◌else◌}
 use Rattle.std.specs.Str.{bytes_eq}
 use Rattle.std.specs.List.{list_all}
 use Rattle.std.specs.Option.{option_map}
-use Rattle.bx_events.specs.Events.{Tick, Receive, LiveEvent, OnLink, WithoutLink, Sold}
+use Rattle.bx_events.specs.Events.{Tick, Receive, LiveEvent, OnLink, WithoutLink, Sold, HeardByRulesTwo}
 use Rattle.bx_journal.specs.declared.fault.JournalFault.{JournalFault}
 use Rattle.bx_journal.specs.declared.fault.JournalFault.TheVariants.{BadLine, OtherPlan, OtherDay, OtherRules, NotBegun}
 use Rattle.bx_journal.specs.declared.head.Head.{Head}
 use Rattle.bx_journal.specs.declared.head.JournalDay.{JournalDay}
 use Rattle.bx_journal.specs.declared.head.JournalDay.TheVariants.{Rehearsed, Live}
-use Rattle.bx_journal.specs.declared.head.TheConstants.{RULES}
+use Rattle.bx_journal.specs.declared.head.TheConstants.{RULES, OLDER_RULES}
 use Rattle.bx_journal.specs.declared.head.Wanted.{Wanted}
-use Rattle.bx_journal.specs.declared.head_reading.Version.{Version}
-use Rattle.bx_journal.specs.declared.head_reading.Version.TheVariants.{Undated, Dated}
-use Rattle.bx_journal.specs.Events.{is_printable}
+use Rattle.bx_journal.specs.declared.version.Version.{Version}
+use Rattle.bx_journal.specs.declared.version.Version.TheVariants.{Undated, Older, Dated}
+use Rattle.bx_journal.specs.Versions.{has_day, head_lines, is_older, IsReadWhere}
+use Rattle.bx_journal.specs.Events.{is_printable, AreEventsIn}
 use Rattle.bx_journal.specs.Heads.{IsJournalDay, IsWanted}
 use Rattle.bx_journal.specs.Hex.{octets_of_digits, is_hex}
 use Rattle.bx_journal.specs.Lines.{whole_lines, whole_text}
 use Rattle.bx_journal.specs.Numbers.{number_on, space_at}
-use Rattle.bx_journal.specs.Text.{plan_line, journal_text, undated_text}
+use Rattle.bx_journal.specs.Text.{plan_line, text_in}
 
-abbrev pub heard_event : List ℕ → LiveEvent
-heard_event octets = OnLink (Receive octets)
+-- what came, in a journal of this version
+abbrev pub heard_event : Version → List ℕ → LiveEvent
+heard_event version octets = if is_older version then HeardByRulesTwo octets else OnLink (Receive octets)
 
--- what came, by its digits: at most those of the longest message
-abbrev pub heard_on : List ℕ → Option LiveEvent
-heard_on digits = if nat_le (length digits) 520 then option_map heard_event (octets_of_digits 65 digits) else None
+-- the same by its digits: at most those of the longest message
+abbrev pub heard_on : Version → List ℕ → Option LiveEvent
+heard_on version digits = if nat_le (length digits) 520 then option_map (heard_event version) (octets_of_digits 65 digits) else None
 
 -- what was sold
 abbrev pub sold_on : List ℕ → Option LiveEvent
@@ -34,12 +36,12 @@ sold_on booking = if nat_le (length booking) 120 && list_all is_printable bookin
 abbrev pub sold_by : List ℕ → Option LiveEvent
 sold_by line = if bytes_eq (take 5 line) (codes "sold ") then sold_on (drop 5 line) else None
 
--- the event of a line
-abbrev pub event_on : List ℕ → Option LiveEvent
-event_on line =
+-- the event of a line in a journal of this version
+abbrev pub event_on : Version → List ℕ → Option LiveEvent
+event_on version line =
     if bytes_eq line (codes "tick") then Some (OnLink Tick)
     else if bytes_eq line (codes "down") then Some WithoutLink
-    else if bytes_eq (take 6 line) (codes "heard ") then heard_on (drop 6 line)
+    else if bytes_eq (take 6 line) (codes "heard ") then heard_on version (drop 6 line)
     else sold_by line
 
 -- an event, and those of the lines after it; the first fault is answered
@@ -49,29 +51,29 @@ with_event n (Some event) (Ok events) = Ok (event ∷ events)
 with_event n (Some event) (Err fault) = Err fault
 
 -- the events of lines, the first of which is line n
-abbrev pub events_on : ℕ → List (List ℕ) → Result (List LiveEvent) JournalFault
-events_on n [] = Ok []
-events_on n (line ∷ lines) = with_event n (event_on line) (events_on (n + 1) lines)
+abbrev pub events_on : Version → ℕ → List (List ℕ) → Result (List LiveEvent) JournalFault
+events_on version n [] = Ok []
+events_on version n (line ∷ lines) = with_event n (event_on version line) (events_on version (n + 1) lines)
 
 -- ---- the head
 
--- what a journal of version 1 is, where this day is wanted: it tells no day, and its rules are older
-abbrev pub undated : Option JournalDay → Result Version JournalFault
-undated None = Ok Undated
-undated (Some day) = Err OtherRules
+-- a version by the older rules, where this day is wanted: no exchange goes on with one
+abbrev pub older_version : Version → Option JournalDay → Result Version JournalFault
+older_version version None = Ok version
+older_version version (Some day) = Err OtherRules
 
 -- version 2, by the number of its rules
-abbrev pub dated_by : Option ℕ → Result Version JournalFault
-dated_by None = Err (BadLine 1)
-dated_by (Some rules) = if rules == RULES then Ok Dated else Err OtherRules
+abbrev pub dated_by : Option JournalDay → Option ℕ → Result Version JournalFault
+dated_by day None = Err (BadLine 1)
+dated_by day (Some rules) = if rules == RULES then Ok Dated else if rules == OLDER_RULES then older_version Older day else Err OtherRules
 
 -- the same, by its line
-abbrev pub dated_on : List ℕ → Result Version JournalFault
-dated_on line = if bytes_eq (take 19 line) (codes "bx-journal 2 rules ") then dated_by (number_on (drop 19 line)) else Err (BadLine 1)
+abbrev pub dated_on : Option JournalDay → List ℕ → Result Version JournalFault
+dated_on day line = if bytes_eq (take 19 line) (codes "bx-journal 2 rules ") then dated_by day (number_on (drop 19 line)) else Err (BadLine 1)
 
 -- the version that the first line names, or its fault
 abbrev pub version_on : Option JournalDay → List ℕ → Result Version JournalFault
-version_on day line = if bytes_eq line (codes "bx-journal 1") then undated day else dated_on line
+version_on day line = if bytes_eq line (codes "bx-journal 1") then older_version Undated day else dated_on day line
 
 -- the line of some plan
 abbrev pub is_plan_line : List ℕ → Bool
@@ -114,33 +116,32 @@ fits_day wanted None = Err (BadLine 3)
 fits_day None (Some day) = Ok tt
 fits_day (Some wanted) (Some day) = if is_day wanted day then Ok tt else Err OtherDay
 
--- how many lines the head has, or the first fault in it. Where it is not there whole yet, the journal was never begun.
-abbrev pub after_day : Result (Unit {0}) JournalFault → Result ℕ JournalFault
-after_day (Ok fits) = Ok 3
-after_day (Err fault) = Err fault
+-- the version that the head is of, or the first fault in it. Where it is not there whole yet, the journal was never begun.
+abbrev pub after_day : Version → Result (Unit {0}) JournalFault → Result Version JournalFault
+after_day version (Ok fits) = Ok version
+after_day version (Err fault) = Err fault
 
-abbrev pub dated_head : Option JournalDay → List (List ℕ) → Result ℕ JournalFault
-dated_head day [] = Err NotBegun
-dated_head day (line ∷ lines) = after_day (fits_day day (day_on line))
+abbrev pub dated_head : Version → Option JournalDay → List (List ℕ) → Result Version JournalFault
+dated_head version day [] = Err NotBegun
+dated_head version day (line ∷ lines) = after_day version (fits_day day (day_on line))
 
-abbrev pub after_plan : Option JournalDay → Result (Unit {0}) JournalFault → Version → List (List ℕ) → Result ℕ JournalFault
+abbrev pub after_plan : Option JournalDay → Result (Unit {0}) JournalFault → Version → List (List ℕ) → Result Version JournalFault
 after_plan day (Err fault) version lines = Err fault
-after_plan day (Ok tied) Undated lines = Ok 2
-after_plan day (Ok tied) Dated lines = dated_head day lines
+after_plan day (Ok tied) version lines = if has_day version then dated_head version day lines else Ok version
 
-abbrev pub after_version : Wanted → Result Version JournalFault → List (List ℕ) → Result ℕ JournalFault
+abbrev pub after_version : Wanted → Result Version JournalFault → List (List ℕ) → Result Version JournalFault
 after_version wanted (Err fault) lines = Err fault
 after_version wanted (Ok version) [] = Err NotBegun
 after_version wanted (Ok version) (line ∷ lines) = after_plan wanted.day (plan_on wanted.plan line) version lines
 
-abbrev pub head_on : Wanted → List (List ℕ) → Result ℕ JournalFault
+abbrev pub head_on : Wanted → List (List ℕ) → Result Version JournalFault
 head_on wanted [] = Err NotBegun
 head_on wanted (line ∷ lines) = after_version wanted (version_on wanted.day line) lines
 
 -- ---- the whole
 
-abbrev pub events_after : Result ℕ JournalFault → List (List ℕ) → Result (List LiveEvent) JournalFault
-events_after (Ok n) lines = events_on (n + 1) (drop n lines)
+abbrev pub events_after : Result Version JournalFault → List (List ℕ) → Result (List LiveEvent) JournalFault
+events_after (Ok version) lines = events_on version (head_lines version + 1) (drop (head_lines version) lines)
 events_after (Err fault) lines = Err fault
 
 abbrev pub journal_events : Wanted → List (List ℕ) → Result (List LiveEvent) JournalFault
@@ -167,12 +168,12 @@ abbrev pub then_events : Option LiveEvent → List LiveEvent → List LiveEvent
 then_events None events = []
 then_events (Some event) events = event ∷ events
 
-abbrev pub events_to_fault : List (List ℕ) → List LiveEvent
-events_to_fault [] = []
-events_to_fault (line ∷ lines) = then_events (event_on line) (events_to_fault lines)
+abbrev pub events_to_fault : Version → List (List ℕ) → List LiveEvent
+events_to_fault version [] = []
+events_to_fault version (line ∷ lines) = then_events (event_on version line) (events_to_fault version lines)
 
-abbrev pub events_after_head : Result ℕ JournalFault → List (List ℕ) → List LiveEvent
-events_after_head (Ok n) lines = events_to_fault (drop n lines)
+abbrev pub events_after_head : Result Version JournalFault → List (List ℕ) → List LiveEvent
+events_after_head (Ok version) lines = events_to_fault version (drop (head_lines version) lines)
 events_after_head (Err fault) lines = []
 
 -- the events of the whole lines before the first fault, or of all of them
@@ -181,13 +182,13 @@ events_before wanted octets = events_after_head (head_on wanted (whole_lines oct
 
 -- ---- what is read, by how it is written
 
--- the journal of a head that is wanted
-pub record IsOfHead (wanted : Wanted) (events : List LiveEvent) (text : List ℕ) : Type 0 where
+-- The text of a journal that is wanted, of these events, as its version may have: by the rules of this program, or, where no day is
+-- wanted, by the older ones.
+pub record IsJournalText (wanted : Wanted) (events : List LiveEvent) (text : List ℕ) : Type 0 where
+  pub version : Version
+  pub is_read : IsReadWhere version wanted.day
   pub head : Head
   pub is_wanted : IsWanted wanted head
   pub is_day : IsJournalDay head.day
-  pub is : text ≡ journal_text head events
-
--- the text of a journal that is wanted, of these events: of version 2, or, where no day is wanted, of version 1
-abbrev pub IsJournalText : Wanted → List LiveEvent → List ℕ → Type 0
-IsJournalText wanted events text = IsOfHead wanted events text ⊎ ((wanted.day ≡ None) × (text ≡ undated_text wanted.plan events))
+  pub events_are : AreEventsIn version events
+  pub is : text ≡ text_in version head events

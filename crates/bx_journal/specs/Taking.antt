@@ -10,7 +10,9 @@ use Rattle.bx_journal.specs.declared.pieces.CannotRead.{CannotRead}
 use Rattle.bx_journal.specs.declared.line_reading.LineEnd.{LineEnd}
 use Rattle.bx_journal.specs.declared.line_reading.LineEnd.TheVariants.{Whole, TooLong, Torn}
 use Rattle.bx_journal.specs.Held.{Held}
-use Rattle.bx_journal.specs.Events.{AreEvents}
+use Rattle.bx_journal.specs.declared.version.Version.{Version}
+use Rattle.bx_journal.specs.Versions.{head_lines}
+use Rattle.bx_journal.specs.Events.{AreEventsIn}
 use Rattle.bx_journal.specs.Lines.{line_ended}
 use Rattle.bx_journal.specs.Inside.{HasNoLf, HaveNoLf}
 use Rattle.bx_journal.specs.Reading.{event_on, head_on}
@@ -100,12 +102,12 @@ pub record TakesTorn (before after : Option (List ℕ)) (old new : Held) (lines 
   pub no_lf : HaveNoLf lines
   pub torn_no_lf : HasNoLf torn
 
--- the head was taken, of so many lines
-pub record HeadTaken (wanted : Wanted) (before after : Option (List ℕ)) (old new : Held) (n : ℕ) : Type 0 where
+-- the head was taken, of this version
+pub record HeadTaken (wanted : Wanted) (before after : Option (List ℕ)) (old new : Held) (version : Version) : Type 0 where
   pub lines : List (List ℕ)
   pub taken : TakesLines before after old new lines
-  pub count : length lines ≡ n
-  pub is : (rest : List (List ℕ)) → head_on wanted (lines ++ rest) ≡ Ok n
+  pub count : length lines ≡ head_lines version
+  pub is : (rest : List (List ℕ)) → head_on wanted (lines ++ rest) ≡ Ok version
 
 -- it has a fault
 pub record HeadRefused (wanted : Wanted) (before after : Option (List ℕ)) (old new : Held) (fault : JournalFault) : Type 0 where
@@ -127,8 +129,8 @@ pub record HeadStops (wanted : Wanted) (faulted : Bool) (before after : Option (
   pub stopped : HasStopped faulted new
   pub is : head_on wanted lines ≡ Err NotBegun
 
-abbrev pub IsHead : Wanted → Bool → Option (List ℕ) → Option (List ℕ) → Held → Held → Result ℕ JournalFault → Type 0
-IsHead wanted faulted before after old new (Ok n) = HeadTaken wanted before after old new n
+abbrev pub IsHead : Wanted → Bool → Option (List ℕ) → Option (List ℕ) → Held → Held → Result Version JournalFault → Type 0
+IsHead wanted faulted before after old new (Ok version) = HeadTaken wanted before after old new version
 IsHead wanted faulted before after old new (Err (BadLine n)) = HeadRefused wanted before after old new (BadLine n)
 IsHead wanted faulted before after old new (Err OtherPlan) = HeadRefused wanted before after old new OtherPlan
 IsHead wanted faulted before after old new (Err OtherDay) = HeadRefused wanted before after old new OtherDay
@@ -141,17 +143,17 @@ abbrev pub lines_text : List LiveEvent → List ℕ
 lines_text events = flat_map line_ended (map line_of events)
 
 -- events were followed, and their lines taken, of which the next one is line n
-pub record TakesEvents {F : Type 0} (followed : F → List LiveEvent → F → Type 0) (f g : F) (first n : ℕ) (before after : Option (List ℕ)) (old new : Held) : Type 0 where
+pub record TakesEvents {F : Type 0} (followed : F → List LiveEvent → F → Type 0) (f g : F) (version : Version) (first n : ℕ) (before after : Option (List ℕ)) (old new : Held) : Type 0 where
   pub events : List LiveEvent
-  pub are : AreEvents events
+  pub are : AreEventsIn version events
   pub takes : Takes before after old new (lines_text events)
   pub followed_all : followed f events g
   pub number : n ≡ first + length events
 
 -- the same, and what stands after these lines
-pub record EventsEnd {F : Type 0} (followed : F → List LiveEvent → F → Type 0) (f g : F) (before after : Option (List ℕ)) (old new : Held) (whole : ℕ) : Type 0 where
+pub record EventsEnd {F : Type 0} (followed : F → List LiveEvent → F → Type 0) (f g : F) (version : Version) (before after : Option (List ℕ)) (old new : Held) (whole : ℕ) : Type 0 where
   pub events : List LiveEvent
-  pub are : AreEvents events
+  pub are : AreEventsIn version events
   pub followed_all : followed f events g
   pub torn : List ℕ
   pub no_lf : HasNoLf torn
@@ -159,33 +161,33 @@ pub record EventsEnd {F : Type 0} (followed : F → List LiveEvent → F → Typ
   pub over : IsOver after new
   pub whole_is : whole ≡ old.taken + length (lines_text events)
 
-pub record EventsStop {F : Type 0} (followed : F → List LiveEvent → F → Type 0) (f g : F) (faulted : Bool) (before after : Option (List ℕ)) (old new : Held) : Type 0 where
+pub record EventsStop {F : Type 0} (followed : F → List LiveEvent → F → Type 0) (f g : F) (version : Version) (faulted : Bool) (before after : Option (List ℕ)) (old new : Held) : Type 0 where
   pub events : List LiveEvent
-  pub are : AreEvents events
+  pub are : AreEventsIn version events
   pub followed_all : followed f events g
   pub torn : List ℕ
   pub no_lf : HasNoLf torn
   pub takes : Takes before after old new (lines_text events ++ torn)
   pub stopped : HasStopped faulted new
 
-pub record EventsBreak {F : Type 0} (followed : F → List LiveEvent → F → Type 0) (f g : F) (first n : ℕ) (before after : Option (List ℕ)) (old new : Held) : Type 0 where
+pub record EventsBreak {F : Type 0} (followed : F → List LiveEvent → F → Type 0) (f g : F) (version : Version) (first n : ℕ) (before after : Option (List ℕ)) (old new : Held) : Type 0 where
   pub events : List LiveEvent
-  pub are : AreEvents events
+  pub are : AreEventsIn version events
   pub followed_all : followed f events g
   pub line : List ℕ
   pub no_lf : HasNoLf line
   pub takes : Takes before after old new (lines_text events ++ line_ended line)
-  pub no_event : event_on line ≡ None
+  pub no_event : event_on version line ≡ None
   pub number : n ≡ first + length events
 
-abbrev pub AreEventLines : {F : Type 0} → (F → List LiveEvent → F → Type 0) → F → F → ℕ → Bool → Option (List ℕ) → Option (List ℕ) → Held → Held → Result ℕ JournalFault → Type 0
-AreEventLines followed f g first faulted before after old new (Ok whole) = EventsEnd followed f g before after old new whole
-AreEventLines followed f g first faulted before after old new (Err (BadLine n)) = EventsBreak followed f g first n before after old new
-AreEventLines followed f g first faulted before after old new (Err OtherPlan) = ⊥
-AreEventLines followed f g first faulted before after old new (Err OtherDay) = ⊥
-AreEventLines followed f g first faulted before after old new (Err OtherRules) = ⊥
-AreEventLines followed f g first faulted before after old new (Err NotBegun) = ⊥
-AreEventLines followed f g first faulted before after old new (Err ReadFailed) = EventsStop followed f g faulted before after old new
+abbrev pub AreEventLines : {F : Type 0} → (F → List LiveEvent → F → Type 0) → F → F → Version → ℕ → Bool → Option (List ℕ) → Option (List ℕ) → Held → Held → Result ℕ JournalFault → Type 0
+AreEventLines followed f g version first faulted before after old new (Ok whole) = EventsEnd followed f g version before after old new whole
+AreEventLines followed f g version first faulted before after old new (Err (BadLine n)) = EventsBreak followed f g version first n before after old new
+AreEventLines followed f g version first faulted before after old new (Err OtherPlan) = ⊥
+AreEventLines followed f g version first faulted before after old new (Err OtherDay) = ⊥
+AreEventLines followed f g version first faulted before after old new (Err OtherRules) = ⊥
+AreEventLines followed f g version first faulted before after old new (Err NotBegun) = ⊥
+AreEventLines followed f g version first faulted before after old new (Err ReadFailed) = EventsStop followed f g version faulted before after old new
 
 -- ---- the same of what was read of a device
 
@@ -204,13 +206,13 @@ IsHeadLineFrom judge remaining device_old device_new =
 
 abbrev pub IsHeadFrom : {R : Type 0} →
     (R → Option (List ℕ)) →
-    Watched R → Watched R → Wanted → Held → Held → Result ℕ JournalFault → Type 0
+    Watched R → Watched R → Wanted → Held → Held → Result Version JournalFault → Type 0
 IsHeadFrom remaining device_old device_new wanted =
     IsHead wanted (is_faulted device_new) (remaining (device_of device_old)) (remaining (device_of device_new))
 
 abbrev pub AreEventLinesFrom : {F R : Type 0} →
     (F → List LiveEvent → F → Type 0) →
     (R → Option (List ℕ)) →
-    Watched R → Watched R → F → F → ℕ → Held → Held → Result ℕ JournalFault → Type 0
-AreEventLinesFrom followed remaining device_old device_new f g first =
-    AreEventLines followed f g first (is_faulted device_new) (remaining (device_of device_old)) (remaining (device_of device_new))
+    Watched R → Watched R → F → F → Version → ℕ → Held → Held → Result ℕ JournalFault → Type 0
+AreEventLinesFrom followed remaining device_old device_new f g version first =
+    AreEventLines followed f g version first (is_faulted device_new) (remaining (device_of device_old)) (remaining (device_of device_new))

@@ -1,13 +1,16 @@
 -- The text of a journal: its head, and events.
-use Rattle.std.specs.Prelude.{ℕ, List, ◌∷◌, ◌++◌, map, codes, decimal}
+use Rattle.std.specs.Prelude.{ℕ, List, [], ◌∷◌, ◌++◌, map, codes, decimal, if◌then◌else◌}
 use Rattle.std.specs.List.{flat_map}
-use Rattle.bx_events.specs.Events.{Tick, Receive, LiveEvent, OnLink, WithoutLink, Sold}
+use Rattle.bx_events.specs.Events.{Tick, Receive, LiveEvent, OnLink, WithoutLink, Sold, HeardByRulesTwo}
 use Rattle.bx_journal.specs.Hex.{hex_of}
 use Rattle.bx_journal.specs.Lines.{line_ended}
 use Rattle.bx_journal.specs.declared.head.Head.{Head}
 use Rattle.bx_journal.specs.declared.head.JournalDay.{JournalDay}
 use Rattle.bx_journal.specs.declared.head.JournalDay.TheVariants.{Rehearsed, Live}
-use Rattle.bx_journal.specs.declared.head.TheConstants.{RULES}
+use Rattle.bx_journal.specs.declared.head.TheConstants.{RULES, OLDER_RULES}
+use Rattle.bx_journal.specs.declared.version.Version.{Version}
+use Rattle.bx_journal.specs.declared.version.Version.TheVariants.{Undated, Older, Dated}
+use Rattle.bx_journal.specs.Versions.{has_day}
 
 -- the line of an event, without its LF
 abbrev pub line_of : LiveEvent → List ℕ
@@ -15,6 +18,7 @@ line_of (OnLink Tick) = codes "tick"
 line_of (OnLink (Receive octets)) = codes "heard " ++ hex_of 65 octets
 line_of WithoutLink = codes "down"
 line_of (Sold booking) = codes "sold " ++ booking
+line_of (HeardByRulesTwo octets) = codes "heard " ++ hex_of 65 octets
 
 -- the line that names the form, and the rules by which the events are replayed
 abbrev pub rules_line : ℕ → List ℕ
@@ -29,16 +33,26 @@ abbrev pub day_line : JournalDay → List ℕ
 day_line Rehearsed = codes "day rehearsed"
 day_line (Live first pace) = codes "day live " ++ decimal first ++ codes " " ++ decimal pace
 
--- the lines of a journal
+-- the first line of a journal of this version
+abbrev pub first_line : Version → List ℕ
+first_line Undated = codes "bx-journal 1"
+first_line Older = rules_line OLDER_RULES
+first_line Dated = rules_line RULES
+
+-- what stands before its events of the day: version 1 told none
+abbrev pub day_lines : Version → JournalDay → List (List ℕ)
+day_lines version day = if has_day version then day_line day ∷ [] else []
+
+-- its lines
+abbrev pub lines_in : Version → Head → List LiveEvent → List (List ℕ)
+lines_in version head events = first_line version ∷ plan_line head.plan ∷ (day_lines version head.day ++ map line_of events)
+
+abbrev pub text_in : Version → Head → List LiveEvent → List ℕ
+text_in version head events = flat_map line_ended (lines_in version head events)
+
+-- the same of the journals that are written
 abbrev pub lines_of : Head → List LiveEvent → List (List ℕ)
-lines_of head events = rules_line RULES ∷ plan_line head.plan ∷ day_line head.day ∷ map line_of events
+lines_of head events = lines_in Dated head events
 
 abbrev pub journal_text : Head → List LiveEvent → List ℕ
-journal_text head events = flat_map line_ended (lines_of head events)
-
--- the lines of a journal of version 1, which told no day
-abbrev pub undated_lines : List ℕ → List LiveEvent → List (List ℕ)
-undated_lines plan events = codes "bx-journal 1" ∷ plan_line plan ∷ map line_of events
-
-abbrev pub undated_text : List ℕ → List LiveEvent → List ℕ
-undated_text plan events = flat_map line_ended (undated_lines plan events)
+journal_text head events = text_in Dated head events

@@ -9,13 +9,14 @@ use bx_q931::Octets;
 /// The line of a booking that is sold: printable ASCII.
 pub type SoldLine = ArrayVec<u8, 120>;
 
-/// An event of a live day, with the octets that came.
+/// An event of a live day, with the octets that came, to an exchange of these rules or of the rules 2.
 #[derive(Drop)]
 pub enum LoggedEvent {
     Tick,
     Heard(Octets),
     Down,
     Sold(SoldLine),
+    HeardByRulesTwo(Octets),
 }
 
 impl LoggedEvent {
@@ -31,6 +32,7 @@ impl LoggedEvent {
             LoggedEvent::Heard(octets) => LiveEvent::OnLink(Event::Receive(octets)),
             LoggedEvent::Down => LiveEvent::WithoutLink,
             LoggedEvent::Sold(booking) => LiveEvent::Sold(booking),
+            LoggedEvent::HeardByRulesTwo(octets) => LiveEvent::HeardByRulesTwo(octets),
         }
     }
 }

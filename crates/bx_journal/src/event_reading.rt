@@ -4,19 +4,32 @@ ghost use Rattle.std.specs.Prelude.{◌≡◌};
 ghost use Rattle.std.specs.List.{list_all};
 ghost use Rattle.std.specs.Option.{option_map};
 ghost use Rattle.bx_journal.specs.Events.{is_printable, logged_event};
-ghost use Rattle.bx_journal.specs.Reading.{event_on, heard_on, sold_by, sold_on};
+ghost use Rattle.bx_journal.specs.Reading.{event_on, heard_event, heard_on, sold_by, sold_on};
 
 use crate::event::{LoggedEvent, SoldLine};
 use crate::hex::octets_in;
+use crate::version::Version;
+use bx_q931::Octets;
+
+/// What came, in a journal of this version.
+fn heard(version: Version, octets: Octets) -> LoggedEvent
+    ensures { logged_event result ≡ heard_event version octets.items }
+{
+    if version.is_older() {
+        LoggedEvent::HeardByRulesTwo(octets)
+    } else {
+        LoggedEvent::Heard(octets)
+    }
+}
 
 /// What came, by its digits.
-fn heard_on(digits: &[u8]) -> Option<LoggedEvent>
-    ensures { option_map logged_event result ≡ heard_on digits.now }
+fn heard_on(version: Version, digits: &[u8]) -> Option<LoggedEvent>
+    ensures { option_map logged_event result ≡ heard_on version digits.now }
 {
     if digits.len() > 520 {
         return None;
     }
-    Some(LoggedEvent::Heard(octets_in(digits)?))
+    Some(heard(version, octets_in(digits)?))
 }
 
 /// Whether each octet is printable ASCII.
@@ -56,16 +69,16 @@ fn sold_by(line: &[u8]) -> Option<LoggedEvent>
     }
 }
 
-/// The event of a line, where it has one.
-pub(crate) fn event_on(line: &[u8]) -> Option<LoggedEvent>
-    ensures { option_map logged_event result ≡ event_on line.now }
+/// The event of a line in a journal of this version, where it has one.
+pub(crate) fn event_on(version: Version, line: &[u8]) -> Option<LoggedEvent>
+    ensures { option_map logged_event result ≡ event_on version line.now }
 {
     if line == b"tick".as_slice() {
         Some(LoggedEvent::Tick)
     } else if line == b"down".as_slice() {
         Some(LoggedEvent::Down)
     } else if line.len() >= 6 && &line[..6] == b"heard ".as_slice() {
-        heard_on(&line[6..])
+        heard_on(version, &line[6..])
     } else {
         sold_by(line)
     }

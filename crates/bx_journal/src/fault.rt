@@ -14,7 +14,8 @@ pub enum JournalFault {
     /// The third line names another day.
     #[error("J5 OtherDay")]
     OtherDay,
-    /// The first line names other rules, or the version that named none, where a day is wanted.
+    /// The first line names rules by which no event is replayed, or, where a day is wanted, the older rules, or the version that named
+    /// none.
     #[error("J8 OtherRules")]
     OtherRules,
     /// The text ends inside its head, so no event is logged.

@@ -2,9 +2,12 @@
 
 ghost use Rattle.std.specs.Prelude.{◌≡◌};
 
-/// The number of the rules by which the events of a journal are replayed. A journal of other rules would tell another day, so it is
-/// refused. It is to be raised with each change of what an event does to a day.
-pub const RULES: u32 = 2;
+/// The number of the rules by which the events of a journal are replayed. A journal of other rules would tell another day, so no
+/// exchange goes on with one. It is to be raised with each change of what an event does to a day.
+pub const RULES: u32 = 3;
+
+/// The number of the older rules by which a journal is still read where no day is wanted. Those of version 1 are the same.
+pub const OLDER_RULES: u32 = 2;
 
 /// What the day of a journal is.
 #[derive(Clone, Copy, Debug, PartialEq, Eq)]
@@ -24,7 +27,7 @@ pub struct Head {
 }
 
 /// What is wanted of a journal that is read: a plan, and, where an exchange is to go on with it, a day. Where no day is wanted,
-/// a journal of each is read, and one of version 1, which tells none.
+/// a journal of each is read, also one by the older rules, as is one of version 1, which tells no day.
 #[derive(Clone, Copy)]
 pub struct Wanted {
     pub plan: [u8; 32],

@@ -1,51 +1,46 @@
 //! Reading the lines at the head.
 
-ghost use Rattle.std.specs.Prelude.{◌≡◌, ◌≤◌, ◌<◌, Err, ◌⊎◌, IfOk};
+ghost use Rattle.std.specs.Prelude.{◌≡◌, ◌<◌, Err, ◌⊎◌, IfOk};
 ghost use Rattle.std.specs.List.{list_all};
 ghost use Rattle.bx_devices.specs.Watching.{is_faulted};
 ghost use Rattle.bx_journal.specs.Hex.{is_hex};
 ghost use Rattle.bx_journal.specs.Numbers.{number_on};
-ghost use Rattle.bx_journal.specs.Reading.{day_on, dated_by, dated_on, fits_day, is_day, is_plan_line, live_by, live_on, plan_fault, plan_on, undated, version_on};
+ghost use Rattle.bx_journal.specs.Reading.{day_on, dated_by, dated_on, fits_day, is_day, is_plan_line, live_by, live_on, older_version, plan_fault, plan_on, version_on};
+ghost use Rattle.bx_journal.specs.Versions.{head_lines};
 ghost use Rattle.bx_journal.specs.Taking.{IsHeadLineFrom, IsHeadFrom};
 
 use crate::fault::JournalFault;
-use crate::head::{JournalDay, RULES, Wanted};
+use crate::head::{JournalDay, OLDER_RULES, RULES, Wanted};
 use crate::hex::is_hex;
 use crate::line_reading::{LineEnd, WholeLine, next_line};
 use crate::numbers::{number_on, space_at};
 use crate::pieces::Pieces;
+use crate::version::Version;
 use crate::written::plan_line;
 use bx_devices::Watched;
 use std::io::Read;
 
-/// The versions of a journal.
-#[derive(Clone, Copy)]
-pub enum Version {
-    /// 1, whose head is two lines and tells no day.
-    Undated,
-    /// 2, whose head is three.
-    Dated,
-}
-
-/// What a journal of version 1 is, where this day is wanted.
-fn undated(day: Option<JournalDay>) -> Result<Version, JournalFault>
-    ensures { result ≡ undated day }
+/// A version by the older rules, where this day is wanted: no exchange goes on with one.
+fn older_version(version: Version, day: Option<JournalDay>) -> Result<Version, JournalFault>
+    ensures { result ≡ older_version version day }
 {
     match day {
-        None => Ok(Version::Undated),
+        None => Ok(version),
         Some(_) => Err(JournalFault::OtherRules),
     }
 }
 
 /// Version 2, by the number of its rules.
-fn dated_by(digits: &[u8]) -> Result<Version, JournalFault>
-    ensures { result ≡ dated_by (number_on digits.now) }
+fn dated_by(day: Option<JournalDay>, digits: &[u8]) -> Result<Version, JournalFault>
+    ensures { result ≡ dated_by day (number_on digits.now) }
 {
     match number_on(digits) {
         None => Err(JournalFault::BadLine(1)),
         Some(rules) => {
             if rules == RULES {
                 Ok(Version::Dated)
+            } else if rules == OLDER_RULES {
+                older_version(Version::Older, day)
             } else {
                 Err(JournalFault::OtherRules)
             }
@@ -54,11 +49,11 @@ fn dated_by(digits: &[u8]) -> Result<Version, JournalFault>
 }
 
 /// Version 2, by its line.
-fn dated_on(line: &[u8]) -> Result<Version, JournalFault>
-    ensures { result ≡ dated_on line.now }
+fn dated_on(day: Option<JournalDay>, line: &[u8]) -> Result<Version, JournalFault>
+    ensures { result ≡ dated_on day line.now }
 {
     if line.len() >= 19 && &line[..19] == b"bx-journal 2 rules ".as_slice() {
-        dated_by(&line[19..])
+        dated_by(day, &line[19..])
     } else {
         Err(JournalFault::BadLine(1))
     }
@@ -69,9 +64,9 @@ fn version_on(day: Option<JournalDay>, line: &[u8]) -> Result<Version, JournalFa
     ensures { result ≡ version_on day line.now }
 {
     if line == b"bx-journal 1".as_slice() {
-        undated(day)
+        older_version(Version::Undated, day)
     } else {
-        dated_on(line)
+        dated_on(day, line)
     }
 }
 
@@ -245,24 +240,20 @@ fn read_day_line<R: Read>(
     }
 }
 
-/// Reads the head, and answers how many lines it has: fewer than octets.
+/// Reads the head, and answers the version. It has fewer lines than octets.
 pub(crate) fn read_head<R: Read>(
     pieces: &mut Pieces,
     device: &mut Watched<R>,
     wanted: &Wanted,
-) -> Result<u64, JournalFault>
+) -> Result<Version, JournalFault>
     ensures head { IsHeadFrom R.remaining device.old device.new wanted.now pieces.old pieces.new result }
-    ensures few { IfOk result (λ n. n ≤ 3) }
-    ensures past { IfOk result (λ n. n < pieces.new.taken) }
+    ensures past { IfOk result (λ version. head_lines version < pieces.new.taken) }
     ensures unfaulted { (is_faulted device.new ≡ is_faulted device.old) ⊎ (result ≡ Err JournalFault.ReadFailed) }
 {
     let version = read_version(pieces, device, wanted.day)?;
     read_plan_line(pieces, device, &wanted.plan)?;
-    match version {
-        Version::Undated => Ok(2),
-        Version::Dated => {
-            read_day_line(pieces, device, wanted.day)?;
-            Ok(3)
-        }
+    if version.has_day() {
+        read_day_line(pieces, device, wanted.day)?;
     }
+    Ok(version)
 }

@@ -6,18 +6,19 @@ ghost use Rattle.bx_journal.specs.Reading.{recovered};
 ghost use Rattle.bx_journal.specs.declared.fault.JournalFault.TheVariants.{OtherDay};
 ghost use Rattle.bx_journal.specs.declared.head.Wanted.{Wanted};
 ghost use Rattle.bx_journal.specs.Laws.{IsOwnTextReadAgain, IsWantedTextReadAgain, IsSpelledAsRead, HasOneHeadAndEvents};
-ghost use Rattle.bx_journal.specs.Laws.{IsReadWithItsHeadAlone, IsUndatedOfNoDay, IsReadAlikeWithLess};
+ghost use Rattle.bx_journal.specs.Laws.{IsReadWithItsHeadAlone, IsOlderOfNoDay, IsReadByKnownRules, IsReadAlikeWithLess};
 
 use crate::disk::Disk;
 
 /// The text of events is read as these events, whatever stands after it that no LF ends: where its own head is wanted, or only
-/// its plan; and so is one of version 1, where no day is wanted.
+/// its plan; and so is one by the older rules, or of version 1, where no day is wanted, with what came to an exchange of these rules.
 pub fn read_again()
     ensures own { IsOwnTextReadAgain }
     ensures wanted { IsWantedTextReadAgain }
 {}
 
-/// What is read is spelled so: the whole lines are a text of the events that is wanted, and no LF stands after them.
+/// What is read is spelled so: the whole lines are a text of the events that is wanted, by the rules that its first line names, and no
+/// LF stands after them.
 pub fn spelled()
     ensures { IsSpelledAsRead }
 {}
@@ -29,10 +30,12 @@ pub fn one_text()
 {}
 
 /// A journal is never taken for that of another head, whatever a crash left after its whole lines: what is read where a head is
-/// wanted was written with this head, and one of version 1 is none of any day.
+/// wanted was written with this head, one by the older rules, or of version 1, is none of any day, and one by any other rules is refused
+/// by all.
 pub fn never_of_another()
     ensures head { IsReadWithItsHeadAlone }
-    ensures undated { IsUndatedOfNoDay }
+    ensures older { IsOlderOfNoDay }
+    ensures rules { IsReadByKnownRules }
 {}
 
 /// What an exchange reads that goes on, also after a crash, is read alike where less is wanted of it.

@@ -20,6 +20,7 @@ mod numbers;
 mod pieces;
 mod reading;
 mod resuming;
+mod version;
 mod written;
 
 pub use beginning::begin;
@@ -31,7 +32,7 @@ pub use event::{LoggedEvent, SoldLine};
 pub use event_reading::are_printable;
 pub use fault::JournalFault;
 pub use file::{DiskFile, FileDisk};
-pub use head::{Head, JournalDay, RULES, Wanted};
+pub use head::{Head, JournalDay, OLDER_RULES, RULES, Wanted};
 pub use logging::{commit, log_event, log_events, write_event};
 pub use memory::MemoryDisk;
 pub use reading::{Follower, read_journal};

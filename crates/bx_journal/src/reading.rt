@@ -14,6 +14,7 @@ use crate::head::Wanted;
 use crate::head_reading::read_head;
 use crate::line_reading::{LineEnd, WholeLine, next_line};
 use crate::pieces::Pieces;
+use crate::version::Version;
 use bx_devices::Watched;
 use std::io::Read;
 
@@ -31,15 +32,17 @@ pub trait Follower {
     ghost follows_on: { (s t u : Self) (xs ys : List LiveEvent) → followed s xs t → followed t ys u → followed s (xs ++ ys) u };
 }
 
-/// Reads lines to the end, the first of which is line `first`, and answers how many octets stand before what is torn.
+/// Reads the lines after a head of this version to the end, the first of which is line `first`, and answers how many octets stand
+/// before what is torn.
 fn read_events<R: Read, F: Follower>(
     pieces: &mut Pieces,
     device: &mut Watched<R>,
     follower: &mut F,
+    version: Version,
     first: u64,
 ) -> Result<u64, JournalFault>
     requires { first ≤ pieces.old.taken }
-    ensures lines { AreEventLinesFrom F.followed R.remaining device.old device.new follower.old follower.new first pieces.old pieces.new result }
+    ensures lines { AreEventLinesFrom F.followed R.remaining device.old device.new follower.old follower.new version first pieces.old pieces.new result }
     ensures unfaulted { (is_faulted device.new ≡ is_faulted device.old) ⊎ (result ≡ Err JournalFault.ReadFailed) }
 {
     let mut line = WholeLine::new();
@@ -47,7 +50,7 @@ fn read_events<R: Read, F: Follower>(
     while pieces.taken() < u64::MAX {
         let whole = pieces.taken();
         match next_line(pieces, device, &mut line) {
-            Ok(LineEnd::Whole) => match event_on(&line) {
+            Ok(LineEnd::Whole) => match event_on(version, &line) {
                 Some(event) => follower.follow(&event),
                 None => return Err(JournalFault::BadLine(n)),
             },
@@ -62,10 +65,10 @@ fn read_events<R: Read, F: Follower>(
 
 /// Reads the journal that is wanted to its end, and lets its events be followed one by one. It keeps neither the text nor the
 /// events, so a journal may be of any length. Answers how many octets are whole lines: what stands after them is what a
-/// crash cut, and is dropped. Lines are read in order, and the first fault is answered: `NotBegun` where the text ends inside its
-/// head, `OtherRules` at line 1, `OtherPlan` at line 2, `OtherDay` at line 3, `BadLine` with the number of the line, or
-/// `ReadFailed`. The events before it were followed. What was read of a device that does not tell its octets is some text, of
-/// which the same is said.
+/// crash cut, and is dropped. What came to an exchange of the older rules is followed as that. Lines are read in order, and the first
+/// fault is answered: `NotBegun` where the text ends inside its head, `OtherRules` at line 1, `OtherPlan` at line 2, `OtherDay` at
+/// line 3, `BadLine` with the number of the line, or `ReadFailed`. The events before it were followed. What was read of a device that
+/// does not tell its octets is some text, of which the same is said.
 pub fn read_journal<R: Read, F: Follower>(
     device: &mut Watched<R>,
     wanted: &Wanted,
@@ -75,6 +78,7 @@ pub fn read_journal<R: Read, F: Follower>(
     ensures unfaulted { (is_faulted device.new ≡ is_faulted device.old) ⊎ (result ≡ Err JournalFault.ReadFailed) }
 {
     let mut pieces = Pieces::new();
-    let lines = read_head(&mut pieces, device, wanted)?;
-    read_events(&mut pieces, device, follower, lines + 1)
+    let version = read_head(&mut pieces, device, wanted)?;
+    let first = version.head_lines() + 1;
+    read_events(&mut pieces, device, follower, version, first)
 }

@@ -64,7 +64,7 @@ pub(crate) fn line_of(event: LiveEvent<'_>) -> Line
     let mut line = Line::new();
     match event {
         LiveEvent::OnLink(Event::Tick) => add(&mut line, b"tick"),
-        LiveEvent::OnLink(Event::Receive(octets)) => {
+        LiveEvent::OnLink(Event::Receive(octets)) | LiveEvent::HeardByRulesTwo(octets) => {
             add(&mut line, b"heard ");
             add_hex(&mut line, b'A', octets);
         }

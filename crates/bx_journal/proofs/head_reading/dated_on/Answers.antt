@@ -11,4 +11,4 @@ returns-then-eq c =
     let line = c.args.line.now in
     let test : bytes_eq (take 19 line) (codes "bx-journal 2 rules ") ≡ true = search rules steps 1000000 in
     let all : take (length line - 19) (drop 19 line) ≡ drop 19 line = take_all (length line - 19) (drop 19 line) (omega (arith, length-drop 19 line)) in
-    c.dated_by.ensures ∙ ap (λ l. dated_by (number_on l)) all ∙ sym (ap (λ b. cond b (dated_by (number_on (drop 19 line))) (Err (BadLine 1))) test)
+    c.dated_by.ensures ∙ ap (λ l. dated_by c.args.day (number_on l)) all ∙ sym (ap (λ b. cond b (dated_by c.args.day (number_on (drop 19 line))) (Err (BadLine 1))) test)

@@ -5,4 +5,4 @@ pub returns-clause-own : goal.returns-clause-own
 returns-clause-own c = λ head torn events day are t. journal_again head events torn day are t
 
 pub returns-clause-wanted : goal.returns-clause-wanted
-returns-clause-wanted c = λ wanted text torn events of are t. wanted_again wanted text torn events of are t
+returns-clause-wanted c = λ wanted text torn events of t. wanted_again wanted text torn events of t

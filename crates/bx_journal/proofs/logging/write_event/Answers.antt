@@ -1,5 +1,6 @@
 use Rattle.std.proofs.Common.{inl, inr, ⊎_elim, ◌++◌, ◌∷◌, [], ℕ, List, ap, sym, ◌∙◌, subst, append_assoc}
 use Rattle.bx_events.specs.Told.{live_event_of}
+use Rattle.bx_journal.specs.declared.version.Version.TheVariants.{Dated}
 use Rattle.bx_journal.specs.Events.{AreEvents}
 use Rattle.bx_journal.specs.Text.{journal_text}
 use Rattle.bx_journal.specs.Logging.{IsPrefix}
@@ -14,7 +15,7 @@ returns-clause-written g c = ok_then c.append.result c.append.ensures.written (�
     let text = ap (λ (l : List ℕ). journal_text head (events ++ more) ++ l) line ∙ sym (text_more head (events ++ more) e) ∙ ap (journal_text head) (append_assoc events more (e ∷ [])) in
     record {
       day_is = s.day_is;
-      events_are = subst AreEvents (append_assoc events more (e ∷ [])) (are_more (events ++ more) e s.events_are c.line_of-line.ensures.octets);
+      events_are = subst AreEvents (append_assoc events more (e ∷ [])) (are_more Dated (events ++ more) e s.events_are c.line_of-line.ensures.octets);
       written = subst (g.D.Disk.holds c.append.new.self) text (written (journal_text head (events ++ more)) s.written);
       left = λ f left. write_leaves head events more e c.deref.result.now s.day_is s.events_are c.line_of-line.ensures.octets line f (⊎_elim (λ was. inl (s.left f was)) (λ torn. inr (torn _ s.written)) (c.append.ensures.crash f left));
     })
