@@ -28,6 +28,9 @@ impl Follower for Following {
             LoggedEvent::Down => self.exchange.second_without_link(),
             // The plan that the exchange was opened with has it.
             LoggedEvent::Sold(_) => {}
+            LoggedEvent::HeardByRulesTwo(octets) => {
+                let _reply = self.exchange.receive_by_rules_two(octets);
+            }
         }
     }
 
