@@ -12,6 +12,7 @@ use Rattle.bx_q931.specs.declared.reference.Reference.{Reference}
 use Rattle.bx_q931.specs.declared.reference.Reference.TheVariants.{Dummy, Value}
 use Rattle.bx_events.specs.Events.{Tick, Receive}
 use Rattle.bx_calls.specs.Said.{Said, said_of}
+use Rattle.bx_calls.specs.declared.rules.Rules.TheVariants.{Three}
 use Rattle.bx_calls.specs.Sending.{Sent, Answered, unchanged}
 use Rattle.bx_day.specs.Day.{Day, every_channel}
 use Rattle.bx_day.specs.Ticks.{ticked}
@@ -59,11 +60,11 @@ receive_stays d octets = by_read (message_at octets) where
   by_value m value flag true = refl
   by_value m value flag false = received_stays d (said_of value flag m) (position (names (said_of value flag m)) d.entries)
 
-  by_reference : (m : PlainMessage) (reference : Reference) → Stays d (receive_from d m reference)
+  by_reference : (m : PlainMessage) (reference : Reference) → Stays d (receive_from Three d m reference)
   by_reference m Dummy = refl
   by_reference m (Value value flag) = by_value m value flag (value == 0)
 
-  by_read : (read : Result PlainMessage MessageFault) → Stays d (receive_read d read)
+  by_read : (read : Result PlainMessage MessageFault) → Stays d (receive_read Three d read)
   by_read (Err fault) = refl
   by_read (Ok m) = by_reference m m.reference
 

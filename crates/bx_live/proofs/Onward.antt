@@ -2,13 +2,13 @@
 use Rattle.std.proofs.Common.{◌≡◌, ◌⊎◌, inl, inr, ℕ, zero, suc, ◌+◌, Some, None, List, [], ◌∷◌, ◌++◌, refl, sym, ap, ◌∙◌, subst, true, false, Bool, Result, Ok, ◌==◌, if◌then◌else◌}
 use Rattle.std.proofs.lemmas.List.{append-nil, append_assoc}
 use Rattle.arrayvec.specs.ArrayVec.{ArrayVec}
-use Rattle.bx_events.specs.Events.{Event, Receive, LiveEvent, OnLink, WithoutLink, Sold}
+use Rattle.bx_events.specs.Events.{Event, Receive, LiveEvent, OnLink, WithoutLink, Sold, HeardByRulesTwo}
 use Rattle.bx_frames.specs.declared.fault.LinkFault.{LinkFault}
 use Rattle.bx_frames.specs.declared.frame.Frame.{Frame}
 use Rattle.bx_frames.specs.declared.frame.Frame.TheVariants as frames
 use Rattle.bx_day.specs.Day.{Day}
 use Rattle.bx_day.specs.Course.{exchange_next, exchange_sent, exchange_text}
-use Rattle.bx_day.specs.Outages.{live_day_after}
+use Rattle.bx_day.specs.Outages.{live_happens, live_day_after}
 use Rattle.bx_live.specs.declared.world.Begin.{Begin}
 use Rattle.bx_live.specs.declared.world.Begin.TheVariants as begins
 use Rattle.bx_live.specs.declared.world.Loss.{Loss}
@@ -25,6 +25,7 @@ days_on [] ys d = refl
 days_on (OnLink e ∷ xs) ys d = days_on xs ys (exchange_next d e)
 days_on (WithoutLink ∷ xs) ys d = days_on xs ys _
 days_on (Sold line ∷ xs) ys d = days_on xs ys d
+days_on (HeardByRulesTwo octets ∷ xs) ys d = days_on xs ys (live_happens d (HeardByRulesTwo octets)).day
 
 pub logged_on : (xs ys : List Act) → logged_by (xs ++ ys) ≡ logged_by xs ++ logged_by ys
 logged_on [] ys = refl

@@ -1,7 +1,7 @@
 -- A live run of a day: which acts come one after another.
 use Rattle.std.specs.Prelude.{◌≡◌, ℕ, zero, suc, ◌+◌, ◌-◌, ◌==◌, Bool, true, false, List, [], ◌∷◌, ◌++◌, if◌then◌else◌, Option, Some, None, Result, Ok, Err}
 use Rattle.arrayvec.specs.ArrayVec.{ArrayVec}
-use Rattle.bx_events.specs.Events.{Tick, Receive, LiveEvent, OnLink, WithoutLink, Sold}
+use Rattle.bx_events.specs.Events.{Tick, Receive, LiveEvent, OnLink, WithoutLink, Sold, HeardByRulesTwo}
 use Rattle.bx_frames.specs.declared.fault.LinkFault.{LinkFault}
 use Rattle.bx_frames.specs.declared.fault.LinkFault.TheVariants.{WriteFailed, WrongMoment, UnknownKind}
 use Rattle.bx_frames.specs.declared.frame.Frame.{Frame}
@@ -9,7 +9,7 @@ use Rattle.bx_frames.specs.declared.frame.Frame.TheVariants as frames
 use Rattle.bx_frames.specs.declared.turn.TheConstants.{MAX_MESSAGES}
 use Rattle.bx_day.specs.Day.{Day}
 use Rattle.bx_day.specs.Course.{exchange_next, exchange_sent, exchange_text}
-use Rattle.bx_day.specs.Outages.{without_link}
+use Rattle.bx_day.specs.Outages.{without_link, live_happens}
 use Rattle.bx_live.specs.declared.world.Begin.{Begin}
 use Rattle.bx_live.specs.declared.world.Begin.TheVariants as begins
 use Rattle.bx_live.specs.declared.world.Loss.{Loss}
@@ -76,10 +76,11 @@ owing d room [] [] = Hearing d room
 owing d room [] (octet ∷ text) = Owing d room false ((octet ∷ text) ∷ [])
 owing d room (message ∷ sent) text = Owing d room true (text ∷ [])
 
--- an event that is logged happens
+-- An event that is logged happens. What came by the rules 2 is logged no more, and nothing is written for it.
 abbrev pub happened : Day → ℕ → LiveEvent → Place
 happened d room WithoutLink = Between (without_link d)
 happened d room (Sold line) = Between d
+happened d room (HeardByRulesTwo octets) = Between (live_happens d (HeardByRulesTwo octets)).day
 happened d room (OnLink event) = owing (exchange_next d event) room (exchange_sent d event) (exchange_text d event)
 
 -- what is owed with the reply to one more message, where there is one

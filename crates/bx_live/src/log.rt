@@ -17,7 +17,8 @@ pub struct Log<D: Disk> {
     pub disk: Option<D>,
 }
 
-/// Whether what came is no longer than the longest message, and what is sold is printable and no longer than its line may be.
+/// Whether an event may be logged: what came is no longer than the longest message, and came by the rules of this program, and what is
+/// sold is printable and no longer than its line may be.
 fn is_message(event: LiveEvent<'_>) -> bool
     ensures taken { result ≡ true → IsLoggable (live_event_of event.entry) }
     ensures refused { result ≡ false → IsLoggable (live_event_of event.entry) → ⊥ }
@@ -26,6 +27,8 @@ fn is_message(event: LiveEvent<'_>) -> bool
         LiveEvent::OnLink(Event::Receive(octets)) => octets.len() <= MAX_MESSAGE,
         LiveEvent::OnLink(Event::Tick) | LiveEvent::WithoutLink => true,
         LiveEvent::Sold(booking) => booking.len() <= 120 && are_printable(booking),
+        // It stands in older journals alone.
+        LiveEvent::HeardByRulesTwo(_) => false,
     }
 }
 
@@ -54,7 +57,7 @@ fn bring_to_disk<D: Disk>(disk: &mut D) -> Result<(), CannotLog>
 
 impl<D: Disk> Log<D> {
     /// Logs an event, where a journal is kept. It need not be on the disk before the next sync. `CannotLog` where what
-    /// came has more than `MAX_MESSAGE` octets, or the disk did not take the line.
+    /// came has more than `MAX_MESSAGE` octets, or came by the rules 2, or the disk did not take the line.
     pub fn log(&mut self, event: LiveEvent<'_>) -> Result<(), CannotLog>
         ensures { WritesKept D.holds D.may_leave D.moment D.left_since D.has_failed self.old.disk (live_event_of event.entry) (is_ok result) self.new.disk }
     {
