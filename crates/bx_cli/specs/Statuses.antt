@@ -1,5 +1,5 @@
 -- What a status says of the command that was asked for.
-use Rattle.std.specs.Prelude.{ℕ, true, List, Option, Ok}
+use Rattle.std.specs.Prelude.{◌≡◌, ℕ, Bool, true, false, List, Option, Ok}
 use Rattle.bx_devices.specs.Devices.{writing_of}
 use Rattle.bx_devices.specs.Watching.{device_of}
 use Rattle.bx_devices.specs.declared.watched.Watched.{Watched}
@@ -23,6 +23,7 @@ use Rattle.bx_live_commands.specs.LiveDays.{IsLiveTold}
 use Rattle.bx_live_commands.specs.LiveRefusals.{IsLiveRefusal}
 use Rattle.bx_rehearsal_commands.specs.RehearsedDays.{IsRehearsalTold}
 use Rattle.bx_rehearsal_commands.specs.RehearsalRefusals.{IsRehearsalRefusal}
+use Rattle.bx_journal_files.specs.Lasting.{does_last}
 use Rattle.bx_journal_files.specs.declared.fault.LiveFault.{LiveFault}
 use Rattle.bx_plan_commands.specs.FileRequests as plans
 use Rattle.bx_plan_commands.specs.declared.fault.FileFault.{FileFault}
@@ -42,15 +43,24 @@ IsRequestDone H left (Sold request) files contents old new = IsSoldTold (GivesSt
 IsRequestDone H left (DayChart request) files contents old new = IsDayCharted (GivesStandard left) request (writing_of contents old new)
 IsRequestDone H left (Decode octets) files contents old new = IsDecoded octets.now (writing_of contents old new)
 
--- else: it was refused, by a fault that says why
+-- at 1: it was refused, by a fault that says why; a live day by one that a start again may mend
 abbrev pub IsRequestRefused : {F W : Type 0} → Type 0 → Option (List ℕ) → Request → (F → Option (List ℕ)) → (W → Option (List ℕ)) → Watched W → Watched W → Type 0
 IsRequestRefused H left (Files request) files contents old new = (fault : FileFault) × plans.IsFileRefused (GivesStandard left) request contents old new fault
 IsRequestRefused H left (Rehearsal request) files contents old new = (fault : LiveFault) × IsRehearsalRefusal files request contents old new fault
 IsRequestRefused H left (Far request) files contents old new = (fault : DayCommandFault) × IsFarRefusal files request contents old new fault
 IsRequestRefused H left (FarLine request) files contents old new = (fault : DayCommandFault) × IsFarLineRefusal H files request contents old new fault
-IsRequestRefused H left (Live request) files contents old new = (fault : LiveFault) × IsLiveRefusal H files request contents old new fault
+IsRequestRefused H left (Live request) files contents old new = (fault : LiveFault) × IsLiveRefusal H files request contents old new fault × (does_last fault ≡ false)
 IsRequestRefused H left (Audit request) files contents old new = (fault : DayCommandFault) × IsAuditRefusal request files contents old new fault
 IsRequestRefused H left (Records request) files contents old new = (fault : DayCommandFault) × IsRecordsCommandRefusal (GivesStandard left) request contents old new fault
 IsRequestRefused H left (Sold request) files contents old new = (fault : DayCommandFault) × IsSoldRefusal (GivesStandard left) request contents old new fault
 IsRequestRefused H left (DayChart request) files contents old new = (fault : DayCommandFault) × IsDayChartCommandRefusal (GivesStandard left) request contents old new fault
 IsRequestRefused H left (Decode octets) files contents old new = (fault : CommandFault) × IsDecodeRefusal octets.now (writing_of contents old new) fault
+
+-- at 3: it is a live day that was refused by a fault which a start again cannot mend
+abbrev pub IsRefusedForGood : {F W : Type 0} → Type 0 → Request → (F → Option (List ℕ)) → (W → Option (List ℕ)) → Watched W → Watched W → Type 0
+IsRefusedForGood H (Live request) files contents old new = (fault : LiveFault) × IsLiveRefusal H files request contents old new fault × (does_last fault ≡ true)
+IsRefusedForGood H _ files contents old new = ⊥
+
+abbrev pub is_live_day : Request → Bool
+is_live_day (Live request) = true
+is_live_day _ = false

@@ -20,7 +20,7 @@ fn texts(alloc: Global, words: &[String]) -> Result<Vec<&str>, AllocError> {
 }
 
 fn status_of(rt: &HostRuntime, words: &[String]) -> Result<u8, AllocError>
-    ensures { IfOk result (λ status. status ≤ 2) }
+    ensures { IfOk result (λ status. status ≤ 3) }
 {
     let texts = texts(rt.alloc(), words)?;
     let mut input = Watched::new(rt.stdin());

@@ -1,6 +1,6 @@
 //! The command line.
 
-ghost use Rattle.std.specs.Prelude.{◌≡◌, ◌≢◌, ◌≤◌, ◌↔◌, ◌⊎◌, ℕ, List, [], Some, true, IsOk, IsErr, OnOk, OnErr};
+ghost use Rattle.std.specs.Prelude.{◌≡◌, ◌≢◌, ◌≤◌, ◌↔◌, ◌⊎◌, ℕ, List, [], Some, true, false, IsOk, IsErr, OnOk, OnErr, IfErr, if◌then◌else◌};
 ghost use Rattle.std.specs.Io.KnownBytes.{Appends};
 ghost use Rattle.bx_devices.specs.Devices.{reading_of, writing_of};
 ghost use Rattle.bx_devices.specs.Octets.{AppendsPrefix};
@@ -8,7 +8,8 @@ ghost use Rattle.bx_devices.specs.Watching.{device_of, is_faulted};
 ghost use Rattle.bx_check_commands.specs.Proved.{IsProvedText, proved_line};
 ghost use Rattle.bx_check_commands.specs.Refusals.{IsRefusal};
 ghost use Rattle.bx_check_commands.specs.declared.fault.CommandFault.{CommandFault};
-ghost use Rattle.bx_cli.specs.Statuses.{IsRequestDone, IsRequestRefused};
+ghost use Rattle.bx_cli.specs.Statuses.{IsRefusedForGood, IsRequestDone, IsRequestRefused, is_live_day};
+ghost use Rattle.bx_journal_files.specs.Lasting.{does_last};
 ghost use Rattle.bx_request.specs.Locations.{IsMet, NoFileMeets};
 ghost use Rattle.bx_request.specs.declared.request.Request.{Request};
 
@@ -16,7 +17,7 @@ use bx_audit::{audit_files, chart_day_files, record_files, sold_files};
 use bx_check_commands::{CommandFault, FilesAndInput, check_self, decode};
 use bx_devices::{Watched, write_octets};
 use bx_far_commands::{far_by_line, far_on_files};
-use bx_journal_files::{Host, Locks, Standing};
+use bx_journal_files::{Host, LiveFault, Locks, Standing};
 use bx_live_commands::live_on_files;
 use bx_plan_commands::run_on_files;
 use bx_rehearsal_commands::rehearse_on_files;
@@ -37,7 +38,7 @@ struct Asked<'a> {
 }
 
 /// Does what the words after the program's name ask for, and answers the status: 0 done, 1 refused, 2 wrong
-/// words. Without words it is `check_self`, whose refusal is printed after `bx: ` as one line on standard error.
+/// words, 3 a live day that is refused by what a start again cannot mend. Without words it is `check_self`, whose refusal is printed after `bx: ` as one line on standard error.
 /// A failing standard error changes no status. A command of which a file would be written that it names twice is refused by `SameFile` before
 /// anything is opened. While a day runs its moment is shown on standard error, where that is a
 /// terminal.
@@ -69,20 +70,24 @@ pub fn main_words<
     // Else it was refused.
     ensures refused { words.now ≡ [] → result ≢ 0 → (result ≡ 1)
         × (fault : CommandFault) × IsRefusal (reading_of R.remaining input.old input.new) (writing_of W.contents output.old output.new) fault }
-    ensures status { result ≤ 2 }
+    ensures status { result ≤ 3 }
     // With words, 0 says that some command is done, whose files are apart by what the system told before one of them was opened, or that a
     // text that was asked for was written.
     ensures words { words.now ≢ [] → result ≡ 0 → ((request : Request) × NoFileMeets (H.tells rt.now) request
         × IsRequestDone H (R.remaining (device_of input.old)) request H.File.contents W.contents output.old output.new)
         ⊎ ((text : List ℕ) × Appends (W.contents (device_of output.old)) (W.contents (device_of output.new)) text) }
     // And 1 says that some command of that kind is refused, or that two of its files are one and nothing was done, or such a text was not
-    // written whole, or nothing was done.
+    // written whole, or nothing was done. Of a live day it is told where a start again may mend it.
     ensures not_done { words.now ≢ [] → result ≡ 1 → ((request : Request) × NoFileMeets (H.tells rt.now) request
         × IsRequestRefused H (R.remaining (device_of input.old)) request H.File.contents W.contents output.old output.new)
-        ⊎ ((request : Request) × (met : List ℕ) × IsMet (H.tells rt.now) request met × (output.new ≡ output.old))
+        ⊎ ((request : Request) × (met : List ℕ) × IsMet (H.tells rt.now) request met × (is_live_day request ≡ false) × (output.new ≡ output.old))
         ⊎ ((text : List ℕ) × (is_faulted output.new ≡ true)
         × AppendsPrefix (W.contents (device_of output.old)) (W.contents (device_of output.new)) text)
         ⊎ (output.new ≡ output.old) }
+    // And 3 says the same of a live day, where a start again cannot mend it.
+    ensures for_good { words.now ≢ [] → result ≡ 3 → ((request : Request) × NoFileMeets (H.tells rt.now) request
+        × IsRefusedForGood H request H.File.contents W.contents output.old output.new)
+        ⊎ ((request : Request) × (met : List ℕ) × IsMet (H.tells rt.now) request met × (is_live_day request ≡ true) × (output.new ≡ output.old)) }
 {
     if words.is_empty() {
         let alloc = rt.alloc();
@@ -103,23 +108,26 @@ fn run_words<'a, H: Host + Locates, R: Read, W: Write, E: Write>(
     errors: &mut Watched<E>,
     is_terminal: bool,
 ) -> u8
-    ensures status { result ≤ 2 }
+    ensures status { result ≤ 3 }
     ensures done { result ≡ 0 → ((request : Request) × NoFileMeets (H.tells rt.now) request
         × IsRequestDone H (R.remaining (device_of input.old)) request H.File.contents W.contents output.old output.new)
         ⊎ ((text : List ℕ) × Appends (W.contents (device_of output.old)) (W.contents (device_of output.new)) text) }
     ensures not_done { result ≡ 1 → ((request : Request) × NoFileMeets (H.tells rt.now) request
         × IsRequestRefused H (R.remaining (device_of input.old)) request H.File.contents W.contents output.old output.new)
-        ⊎ ((request : Request) × (met : List ℕ) × IsMet (H.tells rt.now) request met × (output.new ≡ output.old))
+        ⊎ ((request : Request) × (met : List ℕ) × IsMet (H.tells rt.now) request met × (is_live_day request ≡ false) × (output.new ≡ output.old))
         ⊎ ((text : List ℕ) × (is_faulted output.new ≡ true)
         × AppendsPrefix (W.contents (device_of output.old)) (W.contents (device_of output.new)) text)
         ⊎ (output.new ≡ output.old) }
+    ensures for_good { result ≡ 3 → ((request : Request) × NoFileMeets (H.tells rt.now) request
+        × IsRefusedForGood H request H.File.contents W.contents output.old output.new)
+        ⊎ ((request : Request) × (met : List ℕ) × IsMet (H.tells rt.now) request met × (is_live_day request ≡ true) × (output.new ≡ output.old)) }
 {
     let alloc = rt.alloc();
     let unread = nothing_read(is_terminal);
     match read_words(alloc, words) {
         Ok(request) => match met_file(rt, &request) {
             None => run(rt, request, input, output, errors, is_terminal),
-            Some(name) => refused(alloc, &SameFile(name), unread, errors),
+            Some(name) => files_met(alloc, name, &request, unread, errors),
         },
         Err(Refusal::Help(text)) => status_of(alloc, show(&text, output), unread, errors),
         Err(Refusal::Wrong(text)) => {
@@ -139,9 +147,10 @@ fn run<'a, H: Host, R: Read, W: Write, E: Write>(
     errors: &mut Watched<E>,
     is_terminal: bool,
 ) -> u8
-    ensures status { result ≤ 1 }
+    ensures status { (result ≤ 1) ⊎ (result ≡ 3) }
     ensures done { result ≡ 0 → IsRequestDone H (R.remaining (device_of input.old)) request.entry H.File.contents W.contents output.old output.new }
-    ensures refused { result ≢ 0 → IsRequestRefused H (R.remaining (device_of input.old)) request.entry H.File.contents W.contents output.old output.new }
+    ensures refused { result ≡ 1 → IsRequestRefused H (R.remaining (device_of input.old)) request.entry H.File.contents W.contents output.old output.new }
+    ensures for_good { result ≡ 3 → IsRefusedForGood H request.entry H.File.contents W.contents output.old output.new }
 {
     let alloc = rt.alloc();
     let asked = Asked {
@@ -168,7 +177,7 @@ fn run<'a, H: Host, R: Read, W: Write, E: Write>(
         }
         Request::Live(request) => {
             let done = live_on_files(rt, &mut inputs, request, output, is_terminal);
-            status_of(alloc, done, asked, errors)
+            live_status(alloc, done, asked, errors)
         }
         Request::Audit(request) => {
             let done = audit_files(rt, &mut inputs, request, output);
@@ -239,6 +248,40 @@ fn status_of<F: Display + Copy, E: Write>(
     match done {
         Ok(()) => 0,
         Err(fault) => refused(alloc, &fault, asked, errors),
+    }
+}
+
+/// The same of a live day: 3 where a start again cannot mend what refused it.
+fn live_status<E: Write>(
+    alloc: Global,
+    done: Result<(), LiveFault<'_>>,
+    asked: Asked<'_>,
+    errors: &mut Watched<E>,
+) -> u8
+    ensures done { (result ≡ 0) ↔ IsOk done }
+    ensures refused { IfErr done (λ fault. result ≡ (if does_last fault then 3 else 1)) }
+{
+    let Err(fault) = done else {
+        return 0;
+    };
+    let status = refused(alloc, &fault, asked, errors);
+    if fault.does_last() { 3 } else { status }
+}
+
+/// The status where the file of this name meets another one of the command's.
+fn files_met<E: Write>(
+    alloc: Global,
+    name: &str,
+    request: &Request<'_>,
+    asked: Asked<'_>,
+    errors: &mut Watched<E>,
+) -> u8
+    ensures { result ≡ (if is_live_day request.now then 3 else 1) }
+{
+    let status = refused(alloc, &SameFile(name), asked, errors);
+    match request {
+        Request::Live(_) => 3,
+        _ => status,
     }
 }
 

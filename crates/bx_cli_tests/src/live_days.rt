@@ -2,7 +2,7 @@
 
 use crate::file_commands::{Case, first_wrong};
 use crate::files::{does, folder, placed};
-use crate::program::Answer::{Fails, Misused, Prints};
+use crate::program::Answer::{Fails, FailsForGood, Misused, Prints};
 use std::fs;
 use std::fs::File;
 use std::net::UdpSocket;
@@ -28,15 +28,15 @@ static DAYS: [Case; 19] = [
     ),
     (
         "serve @one.txt --live --line 19801:19802 --date 2020-01-02 --journal @day.journal",
-        Fails("bx: J5 OtherDay\n"),
+        FailsForGood("bx: J5 OtherDay\n"),
     ),
     (
         "serve @one.txt --live --line 19801:19802 --date 2020-01-01 --zone XXX-1 --journal @day.journal",
-        Fails("bx: J5 OtherDay\n"),
+        FailsForGood("bx: J5 OtherDay\n"),
     ),
     (
         "serve @one.txt --live --line 19801:19802 --date 2020-01-01 --journal @day.journal --pace 1000",
-        Fails("bx: J5 OtherDay\n"),
+        FailsForGood("bx: J5 OtherDay\n"),
     ),
     (
         "serve @one.txt --live --line 19801:19802 --date 2020-01-01 --journal @short.journal --turns 1",
@@ -52,11 +52,11 @@ static DAYS: [Case; 19] = [
     ),
     (
         "serve @two.txt --live --line 19801:19802 --date 2020-01-01 --journal @day.journal",
-        Fails("bx: J2 OtherPlan\n"),
+        FailsForGood("bx: J2 OtherPlan\n"),
     ),
     (
         "serve @one.txt --live --line 19801:19802 --date 2020-01-01 --journal @one.csv",
-        Fails("bx: J1 BadLine 1\n"),
+        FailsForGood("bx: J1 BadLine 1\n"),
     ),
     (
         "serve @one.txt --live --line 19801:19802 --date 2020-01-01 --journal @gone/day.journal",
@@ -64,23 +64,23 @@ static DAYS: [Case; 19] = [
     ),
     (
         "serve @one.txt --live --line 19801:19802 --date 2020-01-01 --journal /dev/null",
-        Fails("bx: J7 NotAFile /dev/null\n"),
+        FailsForGood("bx: J7 NotAFile /dev/null\n"),
     ),
     (
         "serve @unproved.txt --live --line 19801:19802 --date 2020-01-01",
-        Fails("bx: C7 NotProved 5\n"),
+        FailsForGood("bx: C7 NotProved 5\n"),
     ),
     (
         "serve @gone --live --line 19801:19802 --date 2026-02-29",
-        Fails("bx: A1 BadDate\n"),
+        FailsForGood("bx: A1 BadDate\n"),
     ),
     (
         "serve @gone --live --line 19801:19802 --date 2020-01-01 --zone X",
-        Fails("bx: A2 BadZone\n"),
+        FailsForGood("bx: A2 BadZone\n"),
     ),
     (
         "serve @gone --live --line 19801:19802 --date 1969-12-31",
-        Fails("bx: A5 BeyondCapture\n"),
+        FailsForGood("bx: A5 BeyondCapture\n"),
     ),
     ("serve @one.txt --live --line 19801:19802", Misused),
 ];
@@ -209,7 +209,7 @@ fn torn_journals(rt: HostRuntime) -> Result<(), Fail> {
     let path = placed(rt.alloc(), "@torn.journal", &folder)?;
     let text = format!(in rt.alloc(); "{HEAD}tick\nheard 0")?;
     fs::write(&rt, path.as_str(), text.as_str())?;
-    let told = (1, "1 live\nmaintenance none\n", "bx: L10 StillUp\n");
+    let told = (3, "1 live\nmaintenance none\n", "bx: L10 StillUp\n");
     assert!(rt; does(&rt, &folder, words, told)?, "torn behind a second");
     assert!(rt;
         holds(&rt, &folder, "@torn.journal", "tick\n", 299_999)?,

@@ -15,13 +15,15 @@ pub(crate) struct Done {
 /// A status, standard output, and standard error; at status 2 how that begins.
 pub(crate) type Expected<'a> = (u8, &'a str, &'a str);
 
-/// What is answered, of which there are three kinds.
+/// What is answered, of which there are four kinds.
 #[derive(Clone, Copy)]
 pub(crate) enum Answer {
     /// Status 0, and this on standard output.
     Prints(&'static str),
     /// Status 1, and this on standard error.
     Fails(&'static str),
+    /// Status 3, and this on standard error: a live day that a start again cannot mend.
+    FailsForGood(&'static str),
     /// Status 2, and a standard error that tells what is wrong with the words.
     Misused,
 }
@@ -31,6 +33,7 @@ impl Answer {
         match self {
             Answer::Prints(output) => (0, output, ""),
             Answer::Fails(errors) => (1, "", errors),
+            Answer::FailsForGood(errors) => (3, "", errors),
             Answer::Misused => (2, "", "error: "),
         }
     }

@@ -13,7 +13,7 @@ const TORN: &str =
     "bx-journal 1\nplan 2115e49ff6c2d6cbbe45cbc298589d645d156451f70f44ccb653b62c10c98e95\ntick\nheard 0";
 
 /// Plans, and journals of them.
-static FILES: [(&str, &str); 10] = [
+static FILES: [(&str, &str); 11] = [
     (
         "every.txt",
         "bx-plan 3\nchannels 1 2 3\nbookings 7\n0 10 5 101 1 free out\n10 12 4 102 1 free out\n0 60 7 103 2 free out\n0 20 6 104 3 free out\n5 15 1 105 - free in\n40 100 3 106 3 free out\n21 100 3 107 1 free out\nprices 1\n10 1\ntotal 28\nend\n",
@@ -40,6 +40,10 @@ static FILES: [(&str, &str); 10] = [
         "bx-journal 1\nplan fbd5c2d6570b0bd4a3a7fb7c90c07ea1ca48af10a72173bcc8a4df631c30ae84\ntick\nheard 0802800107\nheard 0802800307\nheard 080280045A\ntick\ntick\ntick\ntick\ntick\ntick\ntick\ntick\ntick\ntick\ntick\ntick\ntick\ntick\ntick\ntick\ntick\ntick\ntick\nheard 080280014D\ntick\ntick\n",
     ),
     ("torn.journal", TORN),
+    (
+        "brief.journal",
+        "bx-journal 1\nplan 2115e49ff6c2d6cbbe45cbc298589d645d156451f70f44ccb653b62c10c98e95\ntick\nheard 0802800107\nheard 080280014D\n",
+    ),
     (
         "wrong.journal",
         "bx-journal 1\nplan 2115e49ff6c2d6cbbe45cbc298589d645d156451f70f44ccb653b62c10c98e95\ntick\ndown \n",
@@ -68,54 +72,60 @@ struct Recorded {
     totals: &'static str,
 }
 
-static DAYS: [Recorded; 9] = [
+static DAYS: [Recorded; 10] = [
     Recorded {
         name: "every outcome",
         words: "records @every.txt @every.journal",
         records: "row,direction,number,channel,start,end,pay,outcome,from,until,seconds\n1,out,101,1,0,10,5,carried,1,10,9\n2,out,102,1,10,12,4,missed,,,\n3,out,103,2,0,60,7,live,1,,\n4,out,104,3,0,20,6,unanswered,,,\n5,in,105,,5,15,1,refused,,,\n6,out,106,3,40,100,3,waiting,,,\n7,out,107,1,21,100,3,live,,,\n",
-        totals: "carried 1 of 6 accepted, paid 5 of 28\n",
+        totals: "carried 1 of 6 accepted, paid 5 of 28, 9 of 231 seconds, 1 short\n",
     },
     Recorded {
         name: "every outcome in summer time",
         words: "records @every.txt @every.journal --date 2026-03-30 --zone CET-1CEST,M3.5.0,M10.5.0/3",
         records: "row,direction,number,channel,start,end,pay,outcome,from,until,seconds\n1,out,101,1,2026-03-30T00:00:00+02:00,2026-03-30T00:00:10+02:00,5,carried,2026-03-30T00:00:01+02:00,2026-03-30T00:00:10+02:00,9\n2,out,102,1,2026-03-30T00:00:10+02:00,2026-03-30T00:00:12+02:00,4,missed,,,\n3,out,103,2,2026-03-30T00:00:00+02:00,2026-03-30T00:01:00+02:00,7,live,2026-03-30T00:00:01+02:00,,\n4,out,104,3,2026-03-30T00:00:00+02:00,2026-03-30T00:00:20+02:00,6,unanswered,,,\n5,in,105,,2026-03-30T00:00:05+02:00,2026-03-30T00:00:15+02:00,1,refused,,,\n6,out,106,3,2026-03-30T00:00:40+02:00,2026-03-30T00:01:40+02:00,3,waiting,,,\n7,out,107,1,2026-03-30T00:00:21+02:00,2026-03-30T00:01:40+02:00,3,live,,,\n",
-        totals: "carried 1 of 6 accepted, paid 5 of 28\n",
+        totals: "carried 1 of 6 accepted, paid 5 of 28, 9 of 231 seconds, 1 short\n",
     },
     Recorded {
         name: "a zone of minutes",
         words: "records @one.txt @empty.journal --date 2026-01-05 --zone NPT-5:45",
         records: "row,direction,number,channel,start,end,pay,outcome,from,until,seconds\n1,out,1234,1,2026-01-05T00:00:00+05:45,2026-01-05T00:01:00+05:45,5,waiting,,,\n",
-        totals: "carried 0 of 1 accepted, paid 0 of 5\n",
+        totals: "carried 0 of 1 accepted, paid 0 of 5, 0 of 60 seconds, 0 short\n",
     },
     Recorded {
         name: "UTC",
         words: "records @one.txt @torn.journal --date 2026-01-05",
         records: "row,direction,number,channel,start,end,pay,outcome,from,until,seconds\n1,out,1234,1,2026-01-05T00:00:00+00:00,2026-01-05T00:01:00+00:00,5,live,,,\n",
-        totals: "carried 0 of 1 accepted, paid 0 of 5\n",
+        totals: "carried 0 of 1 accepted, paid 0 of 5, 0 of 60 seconds, 0 short\n",
     },
     Recorded {
         name: "a day of 23 hours",
         words: "records @spring.txt @empty.journal --date 2026-03-29 --zone CET-1CEST,M3.5.0,M10.5.0/3",
         records: "row,direction,number,channel,start,end,pay,outcome,from,until,seconds\n1,out,1234,31,2026-03-29T01:30:00+01:00,2026-03-29T03:30:00+02:00,5,waiting,,,\n2,out,1234,31,2026-03-29T03:30:00+02:00,2026-03-30T00:00:00+02:00,5,waiting,,,\n",
-        totals: "carried 0 of 2 accepted, paid 0 of 10\n",
+        totals: "carried 0 of 2 accepted, paid 0 of 10, 0 of 77400 seconds, 0 short\n",
     },
     Recorded {
         name: "a day of 25 hours, with two rows an hour apart in the fold",
         words: "records @autumn.txt @empty.journal --date 2026-10-25 --zone CET-1CEST,M3.5.0,M10.5.0/3",
         records: "row,direction,number,channel,start,end,pay,outcome,from,until,seconds\n1,out,1234,31,2026-10-25T02:30:00+02:00,2026-10-25T02:30:00+01:00,5,waiting,,,\n2,out,1234,31,2026-10-25T02:30:00+01:00,2026-10-26T00:00:00+01:00,5,waiting,,,\n",
-        totals: "carried 0 of 2 accepted, paid 0 of 10\n",
+        totals: "carried 0 of 2 accepted, paid 0 of 10, 0 of 81000 seconds, 0 short\n",
+    },
+    Recorded {
+        name: "a call of no seconds",
+        words: "records @one.txt @brief.journal",
+        records: "row,direction,number,channel,start,end,pay,outcome,from,until,seconds\n1,out,1234,1,0,60,5,carried,1,1,0\n",
+        totals: "carried 0 of 1 accepted, paid 0 of 5, 0 of 60 seconds, 0 short\n",
     },
     Recorded {
         name: "no bookings",
         words: "records @none.txt @empty.journal",
         records: "row,direction,number,channel,start,end,pay,outcome,from,until,seconds\n",
-        totals: "carried 0 of 0 accepted, paid 0 of 0\n",
+        totals: "carried 0 of 0 accepted, paid 0 of 0, 0 of 0 seconds, 0 short\n",
     },
     Recorded {
         name: "no bookings of a day that is named",
         words: "records @none.txt @empty.journal --date 2026-01-05",
         records: "row,direction,number,channel,start,end,pay,outcome,from,until,seconds\n",
-        totals: "carried 0 of 0 accepted, paid 0 of 0\n",
+        totals: "carried 0 of 0 accepted, paid 0 of 0, 0 of 0 seconds, 0 short\n",
     },
     Recorded {
         name: "quiet",
@@ -312,7 +322,7 @@ fn a_call_over_the_fold(rt: HostRuntime) -> Result<(), Fail> {
         "records @fold.txt @fold.journal --date 2026-10-25 --zone CET-1CEST,M3.5.0,M10.5.0/3";
     let records =
         "row,direction,number,channel,start,end,pay,outcome,from,until,seconds\n1,out,1234,31,2026-10-25T00:00:00+02:00,2026-10-25T02:30:00+01:00,5,carried,2026-10-25T00:00:01+02:00,2026-10-25T02:30:00+01:00,12599\n";
-    let totals = "carried 1 of 1 accepted, paid 5 of 5\n";
+    let totals = "carried 1 of 1 accepted, paid 5 of 5, 12599 of 12600 seconds, 1 short\n";
     assert!(rt;
         is_recorded(&rt, &folder, words, records, totals)?,
         "local times"

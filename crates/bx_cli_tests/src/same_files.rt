@@ -2,7 +2,7 @@
 
 use crate::file_commands::{Case, first_wrong};
 use crate::files::{folder, placed};
-use crate::program::Answer::{Fails, Prints};
+use crate::program::Answer::{Fails, FailsForGood, Prints};
 use std::fs;
 use std::os::unix::fs::symlink;
 use std::test::Fail;
@@ -66,7 +66,7 @@ static REFUSED: [Case; 21] = [
     ),
     (
         "serve @one.txt --live --line 19803:19804 --date 2020-01-01 --journal @one.txt",
-        Fails("bx: F6 SameFile @one.txt\n"),
+        FailsForGood("bx: F6 SameFile @one.txt\n"),
     ),
     (
         "far @answer.csv --port 19803 --capture @answer.csv",

@@ -1,5 +1,6 @@
 pub mod OpeningFaults
 pub mod JournalDisks
+pub mod Lasting
 pub mod NewJournals
 pub mod NewJournalsInside
 pub mod Readying

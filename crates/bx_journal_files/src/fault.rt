@@ -1,9 +1,12 @@
 //! Why a day that is logged was not run to its end.
 
 ghost use Rattle.std.specs.Prelude.{◌≡◌, true, is_some};
+ghost use Rattle.bx_journal_files.specs.Lasting.{does_command_last, does_journal_last, does_last, does_opening_last, does_sale_last};
 ghost use Rattle.bx_journal_files.specs.OpeningFaults.{IsUnlogged};
 
-use bx_day_openings::DayCommandFault;
+use bx_check_commands::CommandFault;
+use bx_day_openings::{DayCommandFault, SaleFault};
+use bx_journal::JournalFault;
 use thiserror::Error;
 
 /// The refusal of a command that runs a day with what happens logged.
@@ -30,6 +33,59 @@ pub enum LiveFault<'a> {
     /// The day has no more seconds, and a call is up.
     #[error("L10 StillUp")]
     StillUp,
+}
+
+impl<'a> LiveFault<'a> {
+    /// Whether a start again, with the same words, cannot mend it: the words name no day, the plan is none, is not proved or cannot be
+    /// sold on, the journal is no file or none of this plan, this day and these rules, or the day has no more seconds. Whoever starts
+    /// the exchange again and again need not do so.
+    pub fn does_last(self) -> bool
+        ensures { result ≡ does_last self }
+    {
+        match self {
+            LiveFault::Day(fault) => does_opening_last(fault),
+            LiveFault::NotFirstFit | LiveFault::NotAFile(_) | LiveFault::StillUp => true,
+            LiveFault::NotEmpty(_) | LiveFault::InUse(_) | LiveFault::CannotRecord(_) => false,
+        }
+    }
+}
+
+/// The same of a fault of the day's opening.
+fn does_opening_last(fault: DayCommandFault<'_>) -> bool
+    ensures { result ≡ does_opening_last fault }
+{
+    match fault {
+        DayCommandFault::Command(fault) => does_command_last(fault),
+        DayCommandFault::Day(_) | DayCommandFault::Capture(_) => true,
+        DayCommandFault::Journal(fault) => does_journal_last(fault),
+        DayCommandFault::Sale(fault) => does_sale_last(fault),
+        DayCommandFault::Script(_)
+        | DayCommandFault::CannotListen
+        | DayCommandFault::CannotConnect
+        | DayCommandFault::CannotWriteFile(_)
+        | DayCommandFault::Link(_) => false,
+    }
+}
+
+/// The same of what is wrong with the plan's file.
+fn does_command_last(fault: CommandFault<'_>) -> bool
+    ensures { result ≡ does_command_last fault }
+{
+    matches!(fault, CommandFault::Plan(_) | CommandFault::Check(_))
+}
+
+/// The same of what is wrong with the journal.
+fn does_journal_last(fault: JournalFault) -> bool
+    ensures { result ≡ does_journal_last fault }
+{
+    !matches!(fault, JournalFault::NotBegun | JournalFault::ReadFailed)
+}
+
+/// The same of a sale of the journal.
+fn does_sale_last(fault: SaleFault) -> bool
+    ensures { result ≡ does_sale_last fault }
+{
+    !matches!(fault, SaleFault::Memory)
 }
 
 impl<'a> From<DayCommandFault<'a>> for LiveFault<'a> {

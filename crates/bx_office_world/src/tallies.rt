@@ -27,7 +27,9 @@ fn is_such(became: Became, standing: &Standing) -> bool
         (Became::Refused, Standing::Refused) => true,
         (Became::Waiting, Standing::Unoffered) => true,
         (Became::Live, Standing::OnCall { .. }) => true,
-        (Became::Carried, Standing::Carried { .. }) => true,
+        // A call of no seconds earns nothing.
+        (Became::Carried, Standing::Carried { from, until }) => from < until,
+        (Became::Unanswered, Standing::Carried { from, until }) => from >= until,
         (Became::Unanswered, Standing::Unanswered) => true,
         (Became::Missed, Standing::Missed) => true,
         _ => false,

@@ -3,8 +3,8 @@ use Rattle.std.proofs.Common.{◌≡◌, sym, subst, ◌+◌, ◌≤◌, ℕ, Bo
 use Rattle.std.proofs.lemmas.List.{drop_all}
 use Rattle.bx_day.specs.declared.entry.Entry.{Entry}
 use Rattle.bx_day.specs.declared.entry.Standing.{Standing}
-use Rattle.bx_records.specs.Tallies.{IsTallyOf, IsTallySoFar}
-use Rattle.bx_records.specs.Totals.{how_many, pays_of}
+use Rattle.bx_records.specs.Tallies.{IsTallyOf, IsTallySoFar, IsTotalSoFar}
+use Rattle.bx_records.specs.Totals.{how_many, pays_of, total_of}
 use Rattle.bx_records.specs.declared.tallies.Tally.{Tally}
 
 at_most_one : (b : Bool) → (if b then 1 else 0) ≤ 1
@@ -31,3 +31,15 @@ all_counted test entries k tally past t =
     let count : tally.count + 0 ≡ how_many test entries = subst (λ (es : List Entry). tally.count + how_many test es ≡ how_many test entries) (drop_all k entries past) t.count in
     let pay : tally.pay + 0 ≡ pays_of test entries = subst (λ (es : List Entry). tally.pay + pays_of test es ≡ pays_of test entries) (drop_all k entries past) t.pay in
     record { count = omega (arith, count); pay = omega (arith, pay) }
+
+-- ---- numbers of bookings, together
+
+pub one_added : (f : Entry → ℕ) (entries : List Entry) (k : ℕ) (entry : Entry) (old new n : ℕ) → drop k entries ≡ entry ∷ drop (k + 1) entries → n ≡ f entry → n ≤ 4294967295 → new ≡ old + n → IsTotalSoFar f entries k old → IsTotalSoFar f entries (k + 1) new
+one_added f entries k entry old new n cut is small more t =
+    let before : old + (f entry + total_of f (drop (k + 1) entries)) ≡ total_of f entries = subst (λ (es : List Entry). old + total_of f es ≡ total_of f entries) cut t.total_is in
+    record { total_is = omega (arith, before, is, more); limit = omega (arith, small, more, t.limit) }
+
+pub all_added : (f : Entry → ℕ) (entries : List Entry) (k total : ℕ) → length entries ≤ k → IsTotalSoFar f entries k total → total ≡ total_of f entries
+all_added f entries k total past t =
+    let whole : total + 0 ≡ total_of f entries = subst (λ (es : List Entry). total + total_of f es ≡ total_of f entries) (drop_all k entries past) t.total_is in
+    omega (arith, whole)

@@ -2,6 +2,7 @@
 #![tactic(auto)]
 
 mod fault;
+mod lasted;
 mod lines;
 mod records;
 mod tallies;

@@ -1,7 +1,7 @@
 -- What a day's records total as paid, where each accepted booking was carried, is what the plan's accepted bookings pay.
-use Rattle.std.proofs.Common.{◌≡◌, ℕ, zero, suc, ◌+◌, ◌<◌, not, Bool, true, false, List, [], ◌∷◌, length, Option, arith, refl, sym, ap, ◌∙◌, if◌then◌else◌}
-use Rattle.std.proofs.lemmas.Bool.{false≢true}
-use Rattle.bx_base.specs.Bookings.{Row, row_at, pay_of}
+use Rattle.std.proofs.Common.{◌≡◌, nat_le, nat_lt, ℕ, zero, suc, ◌+◌, ◌<◌, not, Bool, true, false, List, [], ◌∷◌, length, Option, arith, refl, sym, ap, ◌∙◌, if◌then◌else◌}
+use Rattle.std.proofs.lemmas.Bool.{false≢true, and_parts, lt-ltb, ltb-true}
+use Rattle.bx_base.specs.Bookings.{Row, row_at, is_running, pay_of}
 use Rattle.bx_base.specs.Plans as plan
 use Rattle.bx_base.specs.Sums.{sum_below}
 use Rattle.bx_day.specs.Day.{Day, entry_at}
@@ -44,17 +44,21 @@ accepted_pay rows assigned d h =
     ∙ sum_same (length rows) (paid_at stands_accepted d.entries) (λ i. if plan.is_accepted assigned i then (row_at rows i).pay else 0) (λ i lt.
     pay_if (stands_accepted (standing_at d i)) (plan.is_accepted assigned i) (entry_at d.entries i).booking.pay (row_at rows i).pay (ap not (h.accepted i lt) ∙ not_not (plan.is_accepted assigned i)) (ap (λ (b : Row). b.pay) (h.booking i lt)))
 
-carried_is : (u end : ℕ) (s : Standing) → IsCarriedBy u end s → is_carried s ≡ true
-carried_is u end (Carried from until) h = refl
-carried_is u end s h = absurd h
+-- a booking that runs has not ended
+pub runs_before : (b : Row) (t : ℕ) → is_running b t ≡ true → t < b.end
+runs_before b t runs = ltb-true t b.end (and_parts (nat_le b.start t) (nat_lt t b.end) runs).1
+
+carried_is : (u end : ℕ) (s : Standing) → u < end → IsCarriedBy u end s → is_carried s ≡ true
+carried_is u end (Carried from until) lt h = lt-ltb from until (omega (arith, lt, h.0, h.1))
+carried_is u end s lt h = absurd h
 
 refused_none : (s : Standing) → is_refused s ≡ true → is_carried s ≡ false
 refused_none Refused h = refl
 refused_none s h = absurd (false≢true h)
 
--- each accepted booking was carried by some moment
+-- each accepted booking was carried by some moment before its end
 abbrev pub AllCarried : List Row → List (Option ℕ) → Day → Type 0
-AllCarried rows assigned d = (i : ℕ) → i < length rows → plan.is_accepted assigned i ≡ true → (u : ℕ) × IsCarriedBy u (row_at rows i).end (standing_at d i)
+AllCarried rows assigned d = (i : ℕ) → i < length rows → plan.is_accepted assigned i ≡ true → (u : ℕ) × (u < (row_at rows i).end) × IsCarriedBy u (row_at rows i).end (standing_at d i)
 
 carried_or_not : (a : Bool) (s : Standing) → is_refused s ≡ not a → (a ≡ true → is_carried s ≡ true) → is_carried s ≡ a
 carried_or_not true s h f = f refl
@@ -66,5 +70,5 @@ carried_pay rows assigned d h all =
     ∙ ap (λ n. sum_below n (paid_at is_carried d.entries)) h.size
     ∙ sum_same (length rows) (paid_at is_carried d.entries) (λ i. if plan.is_accepted assigned i then (row_at rows i).pay else 0) (λ i lt.
     pay_if (is_carried (standing_at d i)) (plan.is_accepted assigned i) (entry_at d.entries i).booking.pay (row_at rows i).pay
-    (carried_or_not (plan.is_accepted assigned i) (standing_at d i) (h.accepted i lt) (λ on. let p = all i lt on in carried_is p.0 (row_at rows i).end (standing_at d i) p.1))
+    (carried_or_not (plan.is_accepted assigned i) (standing_at d i) (h.accepted i lt) (λ on. let p = all i lt on in carried_is p.0 (row_at rows i).end (standing_at d i) p.1 p.2))
     (ap (λ (b : Row). b.pay) (h.booking i lt)))

@@ -35,7 +35,7 @@ const AFTER: &str = "Examples:
   bx chart plan.txt --journal day.journal > day.svg
   bx decode 080280015A08028091
 
-Status: 0 done, 1 refused (one line on standard error says why; `bx help faults` says what each means), 2 wrong words.";
+Status: 0 done, 1 refused (one line on standard error says why; `bx help faults` says what each means), 2 wrong words, 3 a live day that is refused by what a start again cannot mend.";
 
 /// The names of the commands.
 #[derive(Clone, Copy)]

@@ -27,4 +27,4 @@ returns-clause-paid g c rows channels assigned script old new reached b set h s 
     let same = engine_in_lockstep g.R.Read.remaining g.W.Write.contents g.S.Read.remaining g.T.Write.contents g.D.Disk.holds g.D.Disk.may_leave g.D.Disk.moment g.D.Disk.left_since g.D.Disk.has_failed rows channels assigned script old new reached b set h s j in
     let day : Day = live_day_after (events_of (turns_from reached.moment (ends_opening rows assigned script))) (opening rows assigned) in
     subst (λ (d : Day). pays_of is_carried d.entries ≡ pay_of rows (is_accepted assigned)) (sym same)
-    (carried_pay rows assigned day (stays_plan rows channels assigned (events_of (turns_from reached.moment (ends_opening rows assigned script))) b h) (λ i lt on. (_, answered_carries rows channels assigned script reached.moment b set h once (let e = j.early in omega (arith, e)) i (all i lt on))))
+    (carried_pay rows assigned day (stays_plan rows channels assigned (events_of (turns_from reached.moment (ends_opening rows assigned script))) b h) (λ i lt on. (_, (all i lt on).seconds, answered_carries rows channels assigned script reached.moment b set h once (let e = j.early in omega (arith, e)) i (all i lt on))))

@@ -24,4 +24,4 @@ pub returns-clause-paid : goal.returns-clause-paid
 returns-clause-paid g c rows channels assigned script turns near far b set h s once few j all =
     let day : Day = live_day_after (events_of (turns_from turns (ends_opening rows assigned script))) (opening rows assigned) in
     subst (λ (d : Day). pays_of is_carried d.entries ≡ pay_of rows (is_accepted assigned)) (sym (in_lockstep rows channels assigned script turns near far b set h s few j))
-    (carried_pay rows assigned day (stays_plan rows channels assigned (events_of (turns_from turns (ends_opening rows assigned script))) b h) (λ i lt on. (_, answered_carries rows channels assigned script turns b set h once few i (all i lt on))))
+    (carried_pay rows assigned day (stays_plan rows channels assigned (events_of (turns_from turns (ends_opening rows assigned script))) b h) (λ i lt on. (_, (all i lt on).seconds, answered_carries rows channels assigned script turns b set h once few i (all i lt on))))

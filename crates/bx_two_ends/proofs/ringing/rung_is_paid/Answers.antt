@@ -8,10 +8,10 @@ use Rattle.bx_two_ends.proofs.ringing.rung_is_paid.Goals as goal
 
 pub returns-clause-carried : goal.returns-clause-carried
 returns-clause-carried c rows channels assigned within seconds b h few ok s = carried_pay rows assigned (live_day_after (events_of seconds) (opening rows assigned)) (c.plan_stays.ensures rows channels assigned (events_of seconds) b h)
-    (λ i lt on. let p = s i lt on in (_, c.rung_is_carried.ensures.carried rows channels assigned within seconds i p.0 p.1 p.2 p.3 b h few ok p.4))
+    (λ i lt on. let p = s i lt on in (_, p.4.runs_on, c.rung_is_carried.ensures.carried rows channels assigned within seconds i p.0 p.1 p.2 p.3 b h few ok p.4))
 
 pub returns-clause-unbroken : goal.returns-clause-unbroken
 returns-clause-unbroken c rows channels assigned within turns b h few ok s =
     let seconds : List LiveSecond = map (λ (received : List (List ℕ)). Linked received) turns in
     carried_pay rows assigned (live_day_after (events_of seconds) (opening rows assigned)) (c.plan_stays.ensures rows channels assigned (events_of seconds) b h)
-    (λ i lt on. (_, c.rung_is_carried.ensures.unbroken rows channels assigned within turns i b h few ok (s i lt on)))
+    (λ i lt on. (_, (s i lt on).seconds, c.rung_is_carried.ensures.unbroken rows channels assigned within turns i b h few ok (s i lt on)))
