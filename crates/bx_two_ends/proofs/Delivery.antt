@@ -27,7 +27,7 @@ pub record Sendable (o : Outgoing) : Type 0 where
   pub called : IfSome o.called IsNumber
 
 abbrev pub said_by : ℕ → Bool → Kind → ChannelField → Option ℕ → Option ℕ → Option ℕ → Said
-said_by r f k c z s x = record { reference = r; flag = f; heard = record { kind = k; channel = c; cause = z; state = s }; refused = x }
+said_by r f k c z s x = record { reference = r; flag = f; heard = record { kind = k; channel = c; cause = z; state = s; rules = Three }; refused = x }
 
 -- what is heard of a message that was sent
 abbrev pub said_from : Outgoing → Said

@@ -1,5 +1,6 @@
 -- What both ends make of messages on one channel, where the script of the far end answers each call, and calls nobody: the
 -- call there, if there is one, and what is said. Calls of other channels have no part in it.
+use Rattle.bx_calls.specs.declared.rules.Rules.TheVariants.{Three}
 use Rattle.std.specs.Prelude.{◌≡◌, ◌⊎◌, ℕ, ◌<◌, ◌==◌, Bool, true, false, List, [], ◌∷◌, ◌++◌, Option, Some, None, option_map, if◌then◌else◌}
 use Rattle.bx_q931.specs.Outgoing.{Outgoing}
 use Rattle.bx_q931.specs.Parts.{channel_part}
@@ -32,7 +33,7 @@ left_as call = record { call = call; said = [] }
 
 -- what is heard of a message that was sent
 abbrev pub heard_from : Outgoing → Heard
-heard_from o = record { kind = o.kind; channel = channel_part o.channel; cause = option_map (λ c. c.1) o.cause; state = o.state }
+heard_from o = record { kind = o.kind; channel = channel_part o.channel; cause = option_map (λ c. c.1) o.cause; state = o.state; rules = Three }
 
 -- the messages of a channel, by the channel that each reference has
 abbrev pub messages_on : (ℕ → ℕ) → ℕ → List Outgoing → List Outgoing

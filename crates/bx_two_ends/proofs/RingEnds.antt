@@ -157,6 +157,8 @@ aged_hears m t x (OnCall c a) h = heard_by_cases (λ (step : Transition PlainNet
       unacknowledged = λ asked due is q. tt;
       connected = λ due is q. tt;
       put_off = λ offer due is q. absurd (subst (AgedIn m) is h);
+      unconnected = λ asked due is q. tt;
+      ringing = λ due is q. absurd (subst (AgedIn m) is h);
     })
     (aged_row m t c.reference c.channel c.origin x.heard (net_awake_state c.state) a x.heard.kind (aged_awake m c.state h))
 aged_hears m t x s h = h
