@@ -1,7 +1,7 @@
 //! What is read of a head, and which of its faults is answered.
 
 use crate::told::reading;
-use crate::worked::{HEAD, PLAN, UNDATED};
+use crate::worked::{HEAD, OLDER, PLAN, UNDATED};
 use arrayvec::ArrayVec;
 use bx_journal::{JournalFault, Wanted};
 use std::test::Fail;
@@ -10,10 +10,25 @@ use std::test::Fail;
 type Row = (&'static [u8], Option<JournalFault>, Option<JournalFault>);
 
 /// First lines.
-static FIRST: [Row; 9] = [
-    (b"bx-journal 2 rules 2", None, None),
+static FIRST: [Row; 12] = [
+    (b"bx-journal 2 rules 3", None, None),
     (
-        b"bx-journal 2 rules 3",
+        b"bx-journal 2 rules 2",
+        Some(JournalFault::OtherRules),
+        None,
+    ),
+    (
+        b"bx-journal 2 rules 0",
+        Some(JournalFault::OtherRules),
+        Some(JournalFault::OtherRules),
+    ),
+    (
+        b"bx-journal 2 rules 1",
+        Some(JournalFault::OtherRules),
+        Some(JournalFault::OtherRules),
+    ),
+    (
+        b"bx-journal 2 rules 4",
         Some(JournalFault::OtherRules),
         Some(JournalFault::OtherRules),
     ),
@@ -28,7 +43,7 @@ static FIRST: [Row; 9] = [
         Some(JournalFault::BadLine(1)),
     ),
     (
-        b"bx-journal 2 rules 01",
+        b"bx-journal 2 rules 03",
         Some(JournalFault::BadLine(1)),
         Some(JournalFault::BadLine(1)),
     ),
@@ -38,7 +53,7 @@ static FIRST: [Row; 9] = [
         Some(JournalFault::BadLine(1)),
     ),
     (
-        b"bx-journal 2 rules 2 ",
+        b"bx-journal 2 rules 3 ",
         Some(JournalFault::BadLine(1)),
         Some(JournalFault::BadLine(1)),
     ),
@@ -152,6 +167,8 @@ fn each_first_line_has_its_fault(rt: HostRuntime) -> Result<(), Fail> {
 #[test]
 fn each_third_line_has_its_fault(rt: HostRuntime) -> Result<(), Fail> {
     let prefix =
+        b"bx-journal 2 rules 3\nplan abababababababababababababababababababababababababababababababab\n";
+    let older =
         b"bx-journal 2 rules 2\nplan abababababababababababababababababababababababababababababababab\n";
     let any = Wanted::of_any_day(&PLAN);
     let mut all = true;
@@ -160,6 +177,7 @@ fn each_third_line_has_its_fault(rt: HostRuntime) -> Result<(), Fail> {
         let whole = Ok(text.len() as u64);
         all = all && is_said(&text, &HEAD.wanted(), row.1, whole);
         all = all && is_said(&text, &any, row.2, whole);
+        all = all && is_said(&with_line(older, row.0), &any, row.2, whole);
     }
     assert!(rt; all);
     Ok(())
@@ -167,24 +185,29 @@ fn each_third_line_has_its_fault(rt: HostRuntime) -> Result<(), Fail> {
 
 #[test]
 fn the_first_fault_of_a_head_is_answered(rt: HostRuntime) -> Result<(), Fail> {
-    let rules_and_plan = b"bx-journal 2 rules 3\nplan ab\nday live 1 1\n".as_slice();
+    let rules_and_plan = b"bx-journal 2 rules 2\nplan ab\nday live 1 1\n".as_slice();
     let plan_and_day =
-        b"bx-journal 2 rules 2\nplan 0bababababababababababababababababababababababababababababababab\nday live 1 1\n".as_slice();
+        b"bx-journal 2 rules 3\nplan 0bababababababababababababababababababababababababababababababab\nday live 1 1\n".as_slice();
     assert!(rt; reading(rules_and_plan, &HEAD.wanted()).answer == Err(JournalFault::OtherRules));
     assert!(rt; reading(plan_and_day, &HEAD.wanted()).answer == Err(JournalFault::OtherPlan));
     Ok(())
 }
 
+/// Whether a journal is read to this octet where no day is wanted, with what came told as by the older rules, and is refused where
+/// one is.
+fn is_older(text: &[u8], whole: u64) -> bool {
+    let told = b"to\x08\x02\x01\x00\x75.dto.s60 90 5 1234 in.".as_slice();
+    let read = reading(text, &Wanted::of_any_day(&PLAN));
+    let refused = reading(text, &HEAD.wanted());
+    read.answer == Ok(whole)
+        && read.marks.as_slice() == told
+        && refused.answer == Err(JournalFault::OtherRules)
+        && refused.marks.is_empty()
+}
+
 #[test]
-fn version_1_is_read_where_no_day_is_wanted(rt: HostRuntime) -> Result<(), Fail> {
-    let read = reading(UNDATED, &Wanted::of_any_day(&PLAN));
-    assert!(rt; read.answer == Ok(143));
-    assert_eq!(rt;
-        read.marks.as_slice(),
-        b"th\x08\x02\x01\x00\x75.dth.s60 90 5 1234 in.".as_slice()
-    );
-    let read = reading(UNDATED, &HEAD.wanted());
-    assert!(rt; read.answer == Err(JournalFault::OtherRules));
-    assert_eq!(rt; read.marks.as_slice(), b"".as_slice());
+fn older_rules_are_read_where_no_day_is_wanted(rt: HostRuntime) -> Result<(), Fail> {
+    assert!(rt; is_older(OLDER, 174));
+    assert!(rt; is_older(UNDATED, 143));
     Ok(())
 }

@@ -37,8 +37,30 @@ fn octets(digits: &[u8]) -> Option<Line> {
     if high.is_none() { Some(octets) } else { None }
 }
 
+/// What the first line of a journal says: how many lines its head has, and whether it is by the older rules.
+#[derive(Clone, Copy)]
+struct Kind {
+    head: u64,
+    is_older: bool,
+}
+
+/// The kind of a text, by its start. Where the first line is wrong it does not matter.
+fn kind_of(text: &[u8]) -> Kind {
+    if text.starts_with(b"bx-journal 1\n") {
+        Kind {
+            head: 2,
+            is_older: true,
+        }
+    } else {
+        Kind {
+            head: 3,
+            is_older: text.starts_with(b"bx-journal 2 rules 2\n"),
+        }
+    }
+}
+
 /// Writes down what a line says, and answers whether it is right.
-fn event_line(line: &[u8], marks: &mut Marks) -> bool {
+fn event_line(line: &[u8], is_older: bool, marks: &mut Marks) -> bool {
     if line == b"tick".as_slice() {
         mark(marks, b"t");
         return true;
@@ -55,7 +77,7 @@ fn event_line(line: &[u8], marks: &mut Marks) -> bool {
     };
     match octets(digits) {
         Some(octets) => {
-            mark(marks, b"h");
+            mark(marks, if is_older { b"o" } else { b"h" });
             mark(marks, &octets);
             mark(marks, b".");
             true
@@ -106,7 +128,8 @@ fn version_line(line: &[u8], wants_day: bool) -> Option<JournalFault> {
         return Some(JournalFault::BadLine(1));
     };
     match number(digits) {
-        Some(2) => None,
+        Some(3) => None,
+        Some(2) if !wants_day => None,
         Some(_) => Some(JournalFault::OtherRules),
         None => Some(JournalFault::BadLine(1)),
     }
@@ -165,11 +188,11 @@ fn day_line(line: &[u8], wants_day: bool) -> Option<JournalFault> {
     }
 }
 
-/// What is wrong with line n of a journal whose head has so many lines.
+/// What is wrong with line n of a journal of this kind.
 fn line_fault(
     n: u64,
     line: &[u8],
-    head: u64,
+    kind: Kind,
     wants_day: bool,
     marks: &mut Marks,
 ) -> Option<JournalFault> {
@@ -179,10 +202,10 @@ fn line_fault(
     if n == 2 {
         return plan_line(line);
     }
-    if n == 3 && head == 3 {
+    if n == 3 && kind.head == 3 {
         return day_line(line, wants_day);
     }
-    if event_line(line, marks) {
+    if event_line(line, kind.is_older, marks) {
         None
     } else {
         Some(JournalFault::BadLine(n))
@@ -191,11 +214,7 @@ fn line_fault(
 
 /// What is read of a text, for the plan of the worked journal, and for its day, or for any.
 pub fn plain_reading(text: &[u8], wants_day: bool) -> WasRead {
-    let head = if text.starts_with(b"bx-journal 1\n") {
-        2
-    } else {
-        3
-    };
+    let kind = kind_of(text);
     let mut marks = Marks::new();
     let mut line = Line::new();
     let mut n = 1u64;
@@ -207,7 +226,7 @@ pub fn plain_reading(text: &[u8], wants_day: bool) -> WasRead {
             let _ = line.try_push(*octet);
             continue;
         }
-        if let Some(fault) = line_fault(n, &line, head, wants_day, &mut marks) {
+        if let Some(fault) = line_fault(n, &line, kind, wants_day, &mut marks) {
             return WasRead {
                 answer: Err(fault),
                 marks,
@@ -217,7 +236,7 @@ pub fn plain_reading(text: &[u8], wants_day: bool) -> WasRead {
         n = n.saturating_add(1);
         whole = at;
     }
-    let answer = if n <= head {
+    let answer = if n <= kind.head {
         Err(JournalFault::NotBegun)
     } else {
         Ok(whole)

@@ -2,7 +2,7 @@
 
 use crate::plain_reading::plain_reading;
 use crate::told::reading;
-use crate::worked::{HEAD, PLAN, REHEARSED, TEXT, UNDATED};
+use crate::worked::{HEAD, OLDER, PLAN, REHEARSED, TEXT, UNDATED};
 use arrayvec::ArrayVec;
 use bx_cases::Failing;
 use bx_journal::{JournalFault, Wanted, plan_digest};
@@ -59,6 +59,7 @@ fn the_worked_journal_is_read(rt: HostRuntime) -> Result<(), Fail> {
 fn each_prefix_is_read(rt: HostRuntime) -> Result<(), Fail> {
     assert!(rt; is_same_ahead(TEXT));
     assert!(rt; is_same_ahead(REHEARSED));
+    assert!(rt; is_same_ahead(OLDER));
     assert!(rt; is_same_ahead(UNDATED));
     Ok(())
 }

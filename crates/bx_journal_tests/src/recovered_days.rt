@@ -14,11 +14,11 @@ use std::test::Fail;
 /// Two seconds on the link and one without, a booking that is sold, a CONNECT for the first booking's call, a second on the
 /// link, and a line that was cut.
 static TEXT: &[u8] =
-    b"bx-journal 2 rules 2\nplan abababababababababababababababababababababababababababababababab\nday live 1767222000 60\ntick\ndown\nsold 70 80 5 1234 out\ntick\nheard 0802800107\ntick\ntic";
+    b"bx-journal 2 rules 3\nplan abababababababababababababababababababababababababababababababab\nday live 1767222000 60\ntick\ndown\nsold 70 80 5 1234 out\ntick\nheard 0802800107\ntick\ntic";
 
 /// The same with a sixth event that is none.
 static DAMAGED: &[u8] =
-    b"bx-journal 2 rules 2\nplan abababababababababababababababababababababababababababababababab\nday live 1767222000 60\ntick\ndown\nsold 70 80 5 1234 out\ntick\nheard 0802800107\ntock\n";
+    b"bx-journal 2 rules 3\nplan abababababababababababababababababababababababababababababababab\nday live 1767222000 60\ntick\ndown\nsold 70 80 5 1234 out\ntick\nheard 0802800107\ntock\n";
 
 /// The moment, what is on channel 1, and what has become of the booking.
 fn outcome_at(exchange: &Exchange) -> Option<(u32, Option<(u16, CallState)>, Option<Outcome>)> {

@@ -41,7 +41,7 @@ fn the_head_names_the_plan_and_the_day(rt: HostRuntime) -> Result<(), Fail> {
     let begun = begin(&mut disk, &head);
     assert!(rt; begun.is_ok());
     let head =
-        b"bx-journal 2 rules 2\nplan ba7816bf8f01cfea414140de5dae2223b00361a396177a9cb410ff61f20015ad\nday rehearsed\n";
+        b"bx-journal 2 rules 3\nplan ba7816bf8f01cfea414140de5dae2223b00361a396177a9cb410ff61f20015ad\nday rehearsed\n";
     assert_eq!(rt; disk.octets(), head.as_slice());
     Ok(())
 }

@@ -5,7 +5,8 @@ use bx_devices::Watched;
 use bx_journal::{Follower, JournalFault, LoggedEvent, Wanted, read_journal};
 use std::io::Read;
 
-/// A letter for each event, `t`, `d` or `h`, and after `h` the octets that came and a full stop.
+/// A letter for each event, `t`, `d`, `h`, `o` or `s`, and after `h`, of what came, `o`, of what came by the older rules, and `s`, of
+/// what was sold, the octets and a full stop.
 #[derive(Drop)]
 pub struct Told {
     pub marks: ArrayVec<u8, 256>,
@@ -33,6 +34,11 @@ impl Follower for Told {
             LoggedEvent::Sold(booking) => {
                 mark(&mut self.marks, b"s");
                 mark(&mut self.marks, booking);
+                mark(&mut self.marks, b".");
+            }
+            LoggedEvent::HeardByRulesTwo(octets) => {
+                mark(&mut self.marks, b"o");
+                mark(&mut self.marks, octets);
                 mark(&mut self.marks, b".");
             }
         }

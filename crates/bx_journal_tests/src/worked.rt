@@ -16,14 +16,18 @@ pub static HEAD: Head = Head {
 
 /// A tick, a STATUS ENQUIRY, a second without a link, a tick, a message without octets, and a booking that is sold.
 pub static TEXT: &[u8] =
-    b"bx-journal 2 rules 2\nplan abababababababababababababababababababababababababababababababab\nday live 1767222000 60\ntick\nheard 0802010075\ndown\ntick\nheard \nsold 60 90 5 1234 in\n";
+    b"bx-journal 2 rules 3\nplan abababababababababababababababababababababababababababababababab\nday live 1767222000 60\ntick\nheard 0802010075\ndown\ntick\nheard \nsold 60 90 5 1234 in\n";
 
 /// Where the head ends, and each event after it.
 pub static ENDS: [u64; 7] = [114, 119, 136, 141, 146, 153, 174];
 
 /// The same events of a day that was rehearsed.
 pub static REHEARSED: &[u8] =
-    b"bx-journal 2 rules 2\nplan abababababababababababababababababababababababababababababababab\nday rehearsed\ntick\nheard 0802010075\ndown\ntick\nheard \nsold 60 90 5 1234 in\n";
+    b"bx-journal 2 rules 3\nplan abababababababababababababababababababababababababababababababab\nday rehearsed\ntick\nheard 0802010075\ndown\ntick\nheard \nsold 60 90 5 1234 in\n";
+
+/// The same events in a journal of the older rules.
+pub static OLDER: &[u8] =
+    b"bx-journal 2 rules 2\nplan abababababababababababababababababababababababababababababababab\nday live 1767222000 60\ntick\nheard 0802010075\ndown\ntick\nheard \nsold 60 90 5 1234 in\n";
 
 /// The same events in a journal of version 1.
 pub static UNDATED: &[u8] =
