@@ -58,7 +58,7 @@ J4 CannotRecord NAME  the journal cannot be written, or it was removed, renamed 
 J5 OtherDay           the journal is that of another day: of another date, zone or pace, or of a rehearsal
 J6 InUse NAME         another program writes the journal
 J7 NotAFile NAME      what is to be the journal is no plain file
-J8 OtherRules         the journal was written by other rules than those of this program
+J8 OtherRules         the journal has other rules than 3, by which bx 0.2.0 goes on with a day; of days by the rules 2 it only tells
 J9 BadSale            a line of the journal says that something was sold, and tells no booking
 J10 LateSale          the journal says that a booking was sold which had started by then
 J11 TooMany           the journal says that a booking was sold when the day had 16,000
