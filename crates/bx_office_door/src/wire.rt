@@ -2,16 +2,24 @@
 
 ghost use Rattle.std.specs.Prelude.{◌≡◌, ◌≤◌, ◌∷◌, [], ℕ, List, Option, IfSome, length};
 ghost use Rattle.bx_line_world.specs.Wires.{WireAct, Waited, came_in};
-ghost use Rattle.bx_office_door.specs.Inside.{did_inside_nothing, did_inside_more};
-ghost use Rattle.bx_office_door.specs.Sliced.{DidInside};
+ghost use Rattle.bx_office_door.specs.Inside.{did_inside_more};
+ghost use Rattle.bx_office_door.specs.Sliced.{slice_of, DidInside};
 
 use crate::door::Door;
 use bx_line_world::Wire;
 use std::cell::RefCell;
 use std::rc::Rc;
 
-/// The longest wait for a frame before the door is looked at again, in nanoseconds.
+/// A slice of a wait for a frame, after which the door is looked at again, in nanoseconds.
 const SLICE: u64 = 10_000_000;
+
+/// How long a frame is waited for at once. A system lengthens what it is given by some milliseconds, so the last two slices are one wait: it
+/// ends when a wait without a door would.
+fn slice_of(wait: u64) -> u64
+    ensures { result ≡ slice_of wait }
+{
+    if wait <= 2 * SLICE { wait } else { SLICE }
+}
 
 /// A wire, and a door that is attended while a frame is waited for.
 #[derive(Drop)]
@@ -56,21 +64,13 @@ impl<W: Wire> Wire for OfficeWire<W> {
         self.wire.send(octets);
     }
 
-    /// Waits in slices of at most 10 milliseconds, and attends the door before each.
+    /// Attends the door, and waits for one slice of the time. Whoever waits for more looks at the clock, and calls again.
     fn receive(&mut self, room: &mut [u8], wait: u64) -> Option<usize> {
-        let mut left = wait;
-        while left > SLICE {
-            self.attend();
-            match self.wire.receive(room, SLICE) {
-                Some(count) => return Some(count),
-                None => left -= SLICE,
-            }
-        }
         self.attend();
-        self.wire.receive(room, left)
+        self.wire.receive(room, slice_of(wait))
     }
 
-    ghost did_nothing = { λ s. did_inside_nothing W.did s.wire (W.did_nothing s.wire) };
+    ghost did_nothing = { λ s. W.did_nothing s.wire };
 
     ghost did_more = { λ s t u xs ys p q. did_inside_more W.did W.did_more s.wire t.wire u.wire xs ys p q };
 }
