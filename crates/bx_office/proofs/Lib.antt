@@ -1,3 +1,4 @@
-pub mod Joined
+pub mod Cuts
 pub mod HeadFields
 pub mod Verdicts
+pub mod Taken

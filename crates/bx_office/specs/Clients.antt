@@ -3,7 +3,7 @@ use Rattle.std.specs.Prelude.{◌≡◌, ◌⊎◌, ℕ, ◌-◌, ◌==◌, ◌&
 use Rattle.httparse.specs.Grammar.{RequestHead}
 use Rattle.http1.specs.declared.framing.Framing.{Framing}
 use Rattle.http1.specs.Message.{AcceptsRequest}
-use Rattle.bx_office.specs.Gate.{query_in}
+use Rattle.bx_office.specs.Targets.{query_in}
 use Rattle.bx_office.specs.Heads.{IsVerdict}
 use Rattle.bx_office.specs.declared.client.Client.{Client}
 use Rattle.bx_office.specs.declared.client.Stage.{Stage}
@@ -45,6 +45,14 @@ is_last _ = false
 
 abbrev pub is_over : Client → Bool
 is_over c = is_last c.stage && (length c.out.items == 0)
+
+abbrev pub is_head_due : Stage → Bool
+is_head_due Head = true
+is_head_due _ = false
+
+-- no octet of a request has come
+abbrev pub is_between : Client → Bool
+is_between c = is_head_due c.stage && (length c.unread.items == 0)
 
 -- a whole request waits for its answer, or nothing more is read
 abbrev pub holds_request : Stage → Bool

@@ -1,29 +1,37 @@
 -- Which requests are let through, and where they go.
-use Rattle.std.specs.Prelude.{◌≡◌, ◌⊎◌, ◌++◌, ◌∷◌, [], ◌==◌, ◌+◌, ◌&&◌, ◌||◌, not, ℕ, Bool, true, false, List, take, drop, decimal, codes, Option, Some, None, option_map, Result, Ok, Err}
-use Rattle.std.specs.Borrow.{Bor}
+use Rattle.std.specs.Prelude.{◌≡◌, ◌∷◌, [], ◌==◌, ◌&&◌, ◌||◌, not, ℕ, Bool, true, false, List, codes, Option, Some, None, Result, Ok, Err}
 use Rattle.std.specs.Str.{bytes_eq}
-use Rattle.std.specs.List.{prefix_len}
+use Rattle.bx_office.specs.Targets.{text_of, past, path_asked, host_asked}
+use Rattle.bx_office.specs.Hosts.{is_own_host, is_own_origin}
 use Rattle.bx_office.specs.declared.gate.Place.{Place}
-use Rattle.bx_office.specs.declared.gate.Place.TheVariants.{Port, Socket}
+use Rattle.bx_office.specs.declared.gate.Request.{Request}
 use Rattle.bx_office.specs.declared.gate.Route.{Route}
-use Rattle.bx_office.specs.declared.gate.Route.TheVariants.{Home, Script, Style, Bookings, Quote, Plan, Outcomes, Records, Chart, Metrics, Health}
+use Rattle.bx_office.specs.declared.gate.Route.TheVariants.{Home, Script, Style, Bookings, Quote, Plan, Outcomes, Records, Chart, Metrics, Health, Office}
 use Rattle.bx_office.specs.declared.gate.Refusal.{Refusal}
-use Rattle.bx_office.specs.declared.gate.Refusal.TheVariants.{OtherHost, OtherOrigin, NotFound, WrongMethod, NotCsv}
+use Rattle.bx_office.specs.declared.gate.Refusal.TheVariants.{Doubled, OtherHost, OtherOrigin, UnknownMethod, NotFound, WrongMethod, NotCsv, Coded, NoLength}
 
--- the text of a field, where a request has it
-abbrev pub text_of : Option (Bor (List ℕ)) → Option (List ℕ)
-text_of = option_map (λ x. x.now)
+-- what the gate looks at of a request
+pub record Question : Type 0 where
+  pub method : List ℕ
+  pub target : List ℕ
+  pub host : Option (List ℕ)
+  pub origin : Option (List ℕ)
+  pub content : Option (List ℕ)
+  pub is_doubled : Bool
+  pub is_coded : Bool
+  pub has_length : Bool
 
--- ---- the target of a request: a path, and after the first question mark a query
-
-abbrev pub path_len : List ℕ → ℕ
-path_len target = prefix_len (λ c. not (c == 63)) target
-
-abbrev pub path_in : List ℕ → List ℕ
-path_in target = take (path_len target) target
-
-abbrev pub query_in : List ℕ → List ℕ
-query_in target = drop (path_len target + 1) target
+abbrev pub question_of : Request → Question
+question_of r = record {
+  method = r.method.now;
+  target = r.target.now;
+  host = text_of r.host;
+  origin = text_of r.origin;
+  content = text_of r.content;
+  is_doubled = r.is_doubled;
+  is_coded = r.is_coded;
+  has_length = r.has_length;
+}
 
 -- ---- what there is
 
@@ -39,60 +47,73 @@ path_of Records = codes "/records"
 path_of Chart = codes "/chart.svg"
 path_of Metrics = codes "/metrics"
 path_of Health = codes "/healthz"
+path_of Office = codes "*"
 
--- bookings are posted, all else is got
+-- the methods that HTTP has for what stands at a path (RFC 9110, section 9.3, and RFC 5789)
+abbrev pub is_known : List ℕ → Bool
+is_known method = bytes_eq method (codes "GET") || bytes_eq method (codes "HEAD") || bytes_eq method (codes "POST") || bytes_eq method (codes "PUT")
+    || bytes_eq method (codes "DELETE") || bytes_eq method (codes "OPTIONS") || bytes_eq method (codes "TRACE") || bytes_eq method (codes "PATCH")
+
+-- bookings are posted, the office as a whole is asked for its options, all else is got
 abbrev pub takes : Route → List ℕ → Bool
 takes Bookings method = bytes_eq method (codes "POST")
+takes Office method = bytes_eq method (codes "OPTIONS")
 takes _ method = bytes_eq method (codes "GET") || bytes_eq method (codes "HEAD")
-
--- ---- who asks
-
--- a loopback name with this port; the port of HTTP itself is left out
-abbrev pub is_loopback : ℕ → List ℕ → Bool
-is_loopback port host = bytes_eq host (codes "localhost:" ++ decimal port) || bytes_eq host (codes "127.0.0.1:" ++ decimal port) || bytes_eq host (codes "[::1]:" ++ decimal port)
-    || ((port == 80) && (bytes_eq host (codes "localhost") || bytes_eq host (codes "127.0.0.1") || bytes_eq host (codes "[::1]")))
-
--- the host that a request names is this office. Who may open a socket of the file system is said by its mode
-abbrev pub is_own_host : Place → Option (List ℕ) → Bool
-is_own_host Socket host = true
-is_own_host (Port port) None = false
-is_own_host (Port port) (Some host) = is_loopback port host
-
--- a page of the host that the request names has this origin; one that a proxy hands on from TLS to the socket, the second
-abbrev pub IsOriginOf : Place → List ℕ → List ℕ → Type 0
-IsOriginOf (Port port) host origin = origin ≡ codes "http://" ++ host
-IsOriginOf Socket host origin = (origin ≡ codes "http://" ++ host) ⊎ (origin ≡ codes "https://" ++ host)
-
--- no page of another origin has sent the request
-abbrev pub IsOwnOrigin : Place → Option (List ℕ) → Option (List ℕ) → Type 0
-IsOwnOrigin place host None = Unit {0}
-IsOwnOrigin place None (Some origin) = ⊥
-IsOwnOrigin place (Some host) (Some origin) = IsOriginOf place host origin
-
-abbrev pub IsOwn : Place → Option (List ℕ) → Option (List ℕ) → Type 0
-IsOwn place host origin = (is_own_host place host ≡ true) × IsOwnOrigin place host origin
 
 -- ---- what is sent
 
--- after the type come parameters, or nothing
+-- after the type come parameters, or nothing; white space may stand before that
 abbrev pub ends_type : List ℕ → Bool
 ends_type [] = true
-ends_type (c ∷ rest) = (c == 59) || (c == 32)
+ends_type (c ∷ rest) = (c == 59) || (((c == 32) || (c == 9)) && ends_type rest)
+
+abbrev pub is_csv_type : Option (List ℕ) → Bool
+is_csv_type None = false
+is_csv_type (Some rest) = ends_type rest
 
 abbrev pub is_csv : Option (List ℕ) → Bool
 is_csv None = false
-is_csv (Some content) = bytes_eq (take 8 content) (codes "text/csv") && ends_type (drop 8 content)
+is_csv (Some content) = is_csv_type (past (codes "text/csv") content)
 
 abbrev pub is_typed : Route → Option (List ℕ) → Bool
 is_typed Bookings content = is_csv content
 is_typed _ content = true
 
+abbrev pub has_body : Route → Bool
+has_body Bookings = true
+has_body _ = false
+
 -- ---- the answer of the gate: just one fits each request
 
-abbrev pub IsGated : Place → List ℕ → List ℕ → Option (List ℕ) → Option (List ℕ) → Option (List ℕ) → Result Route Refusal → Type 0
-IsGated place method target host origin content (Ok route) = IsOwn place host origin × (path_in target ≡ path_of route) × (takes route method ≡ true) × (is_typed route content ≡ true)
-IsGated place method target host origin content (Err OtherHost) = is_own_host place host ≡ false
-IsGated place method target host origin content (Err OtherOrigin) = (is_own_host place host ≡ true) × ¬ IsOwnOrigin place host origin
-IsGated place method target host origin content (Err NotFound) = IsOwn place host origin × ((route : Route) → ¬ (path_in target ≡ path_of route))
-IsGated place method target host origin content (Err (WrongMethod route)) = IsOwn place host origin × (path_in target ≡ path_of route) × (takes route method ≡ false)
-IsGated place method target host origin content (Err NotCsv) = IsOwn place host origin × (path_in target ≡ path_of Bookings) × (takes Bookings method ≡ true) × (is_csv content ≡ false)
+-- each field that stands once does so, and the request names this office and comes from no page of another origin
+pub record IsOwn (place : Place) (q : Question) : Type 0 where
+  pub single : q.is_doubled ≡ false
+  pub host : is_own_host place (host_asked q.host q.target) ≡ true
+  pub origin : is_own_origin place (host_asked q.host q.target) q.origin ≡ true
+
+-- .. and its method is known
+pub record IsMeant (place : Place) (q : Question) : Type 0 where
+  pub own : IsOwn place q
+  pub known : is_known q.method ≡ true
+
+-- .. and it asks for what is there, as that is asked for
+pub record IsAsked (place : Place) (q : Question) (route : Route) : Type 0 where
+  pub meant : IsMeant place q
+  pub path : path_asked q.target ≡ path_of route
+  pub taken : takes route q.method ≡ true
+
+-- what has a body says how long it is, and it is not coded
+abbrev pub is_bare : Route → Question → Bool
+is_bare route q = not (has_body route && q.is_coded) && not (has_body route && not q.has_length)
+
+abbrev pub IsGated : Place → Question → Result Route Refusal → Type 0
+IsGated place q (Ok route) = IsAsked place q route × (is_typed route q.content ≡ true) × (is_bare route q ≡ true)
+IsGated place q (Err Doubled) = q.is_doubled ≡ true
+IsGated place q (Err OtherHost) = (q.is_doubled ≡ false) × (is_own_host place (host_asked q.host q.target) ≡ false)
+IsGated place q (Err OtherOrigin) = (q.is_doubled ≡ false) × (is_own_host place (host_asked q.host q.target) ≡ true) × (is_own_origin place (host_asked q.host q.target) q.origin ≡ false)
+IsGated place q (Err UnknownMethod) = IsOwn place q × (is_known q.method ≡ false)
+IsGated place q (Err NotFound) = IsMeant place q × ((route : Route) → ¬ (path_asked q.target ≡ path_of route))
+IsGated place q (Err (WrongMethod route)) = IsMeant place q × (path_asked q.target ≡ path_of route) × (takes route q.method ≡ false)
+IsGated place q (Err NotCsv) = IsAsked place q Bookings × (is_csv q.content ≡ false)
+IsGated place q (Err Coded) = IsAsked place q Bookings × (is_csv q.content ≡ true) × (q.is_coded ≡ true)
+IsGated place q (Err NoLength) = IsAsked place q Bookings × (is_csv q.content ≡ true) × (q.is_coded ≡ false) × (q.has_length ≡ false)

@@ -1,12 +1,12 @@
 -- Private: what the functions of a client promise one another.
-use Rattle.std.specs.Prelude.{◌≡◌, ℕ, Bool, List, [], drop, Result, Ok, ◌++◌, map, Option}
+use Rattle.std.specs.Prelude.{◌≡◌, ℕ, List, [], drop, Result, Ok, ◌++◌, map, Option}
 use Rattle.httparse.specs.Grammar.{RequestHead}
 use Rattle.httparse.specs.Spans.{IsRequestAt, header_bytes}
 use Rattle.httparse.specs.declared.spans.HeaderSpan.{HeaderSpan}
 use Rattle.httparse.specs.declared.spans.RequestSpans.{RequestSpans}
 use Rattle.http1.specs.Server.{after_end}
 use Rattle.http1.specs.declared.server.Server.{Server}
-use Rattle.bx_office.specs.Gate.{query_in}
+use Rattle.bx_office.specs.Targets.{query_in}
 use Rattle.bx_office.specs.Heads.{IsVerdict, first_field_of}
 use Rattle.bx_office.specs.Replies.{after_body, after_head}
 use Rattle.bx_office.specs.declared.client.Client.{Client}
@@ -15,6 +15,7 @@ use Rattle.bx_office.specs.declared.client.Stage.TheVariants.{Body, Asked}
 use Rattle.bx_office.specs.declared.gate.Place.{Place}
 use Rattle.bx_office.specs.declared.gate.Route.{Route}
 use Rattle.bx_office.specs.declared.reply.Reply.{Reply}
+use Rattle.bx_office.specs.declared.reply.Sending.{Sending}
 use Rattle.bx_office.specs.declared.gate.Refusal.{Refusal}
 use Rattle.http1.specs.Fields.{values_named}
 
@@ -67,10 +68,13 @@ HasAsked old new =
     × (new.query ≡ old.query)
     × (new.body ≡ old.body)
 
--- the value of the first field of this name, by the places of the fields in what was read
+-- the values of the fields of this name, and the first of them, by the places of the fields in what was read
+abbrev pub values_at : List ℕ → List HeaderSpan → List ℕ → List (List ℕ)
+values_at input spans name = values_named name (map (header_bytes input) spans)
+
 abbrev pub value_at : List ℕ → List HeaderSpan → List ℕ → Option (List ℕ)
-value_at input spans name = first_field_of (values_named name (map (header_bytes input) spans))
+value_at input spans name = first_field_of (values_at input spans name)
 
 -- the connection after an answer
-abbrev pub after_reply : Bool → Server → Reply → Bool → Server
-after_reply is_head s reply is_last = after_end (after_body is_head (after_head s reply is_last) reply.body.now)
+abbrev pub after_reply : Server → Sending → Reply → Server
+after_reply s how reply = after_end (after_body how.is_head (after_head s how.date reply how.is_last) reply.body.now)

@@ -1,5 +1,9 @@
+pub mod Targets
+pub mod Hosts
 pub mod Gate
 pub mod Heads
 pub mod Replies
+pub mod Refusals
+pub mod Pages
 pub mod Clients
 pub mod Inside

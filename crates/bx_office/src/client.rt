@@ -3,13 +3,15 @@
 ghost use Rattle.std.specs.Prelude.{◌≤◌, length};
 ghost use Rattle.bx_office.specs.declared.client.TheConstants.{MAX_UNREAD, MAX_BODY};
 
-use crate::gate::{Place, Refusal, Route, query_in};
+use crate::gate::{Place, Refusal, Route};
 use crate::heads::{gated, is_head};
 use crate::refusals::{faulting, giving_up, refusing};
-use crate::reply::{Reply, Status, write_reply};
+use crate::reply::{Reply, Sending, Status, date_at, write_reply};
+use crate::targets::query_in;
 use bytes::BytesMut;
 use http1::{BodySize, Event, Limits, Server};
 use httparse::spans::{EMPTY_HEADER_SPAN, HeaderSpan, RequestSpans, Span};
+use httpdate::HttpDate;
 use std::alloc::Global;
 
 /// The most octets that came and are not read: a head is no longer.
@@ -45,6 +47,8 @@ pub struct Client {
     pub(crate) stage: Stage,
     pub(crate) unread: BytesMut,
     pub(crate) has_ended: bool,
+    /// What the clock shows, as its answers say.
+    pub(crate) date: HttpDate,
     pub(crate) is_head: bool,
     pub(crate) query: BytesMut,
     pub(crate) body: BytesMut,
@@ -54,11 +58,12 @@ pub struct Client {
 }
 
 impl Client {
-    ghost use Rattle.std.specs.Prelude.{◌≡◌, ◌⊎◌, ◌++◌, [], drop, slice_range, true, false, IfSome};
-    ghost use Rattle.bx_office.specs.Gate.{query_in};
+    ghost use Rattle.std.specs.Prelude.{◌≡◌, ◌⊎◌, ◌++◌, ◌/◌, [], min, drop, slice_range, true, false, IsTrue, IfSome};
+    ghost use Rattle.httpdate.specs.Date.{unix_secs};
+    ghost use Rattle.bx_office.specs.Targets.{query_in};
     ghost use Rattle.httparse.specs.Spans.{IsRequestWithin};
     ghost use Rattle.bx_office.specs.Inside.{IsUndue, HasAsked, IsBodyBegun, HasKept, IsBodyDue, IsHeadTaken};
-    ghost use Rattle.bx_office.specs.Clients.{IsDueAfter, IsLeft, AreOctetsTaken, IsAfterAnswer, is_over, is_reading, room_to_read};
+    ghost use Rattle.bx_office.specs.Clients.{IsDueAfter, IsLeft, AreOctetsTaken, IsAfterAnswer, is_over, is_between, is_reading, room_to_read};
     ghost use Rattle.bx_office.specs.Replies.{reply_text};
 
     /// A client that has sent nothing yet. Takes no memory.
@@ -75,11 +80,27 @@ impl Client {
             stage: Stage::Head,
             unread: BytesMut::new(alloc),
             has_ended: false,
+            date: date_at(0),
             is_head: false,
             query: BytesMut::new(alloc),
             body: BytesMut::new(alloc),
             out: BytesMut::new(alloc),
         }
+    }
+
+    /// The clock shows so many nanoseconds since 1970 now, which is what answers from now on have as their date.
+    pub fn set_clock(&mut self, shown: u128)
+        ensures date { unix_secs self.new.date ≡ min (shown / 1_000_000_000) 253_402_300_799 }
+        ensures rest { self.new ≡ record self.old { date = self.new.date } }
+    {
+        self.date = date_at(shown);
+    }
+
+    /// Whether no octet of a request has come.
+    pub fn is_between(&self) -> bool
+        ensures { result ≡ is_between self.now }
+    {
+        matches!(self.stage, Stage::Head) && self.unread.is_empty()
     }
 
     /// What it is at.
@@ -184,7 +205,8 @@ impl Client {
         let read = match self.server.read(self.unread.as_slice(), &mut spans) {
             Ok(read) => read,
             Err(fault) => {
-                self.send(faulting(fault), true);
+                let reply = faulting(fault, self.unread.as_slice());
+                self.send(reply, true);
                 return false;
             }
         };
@@ -330,7 +352,7 @@ impl Client {
 
     /// Answers the request that waits.
     pub fn answer(&mut self, reply: Reply<'_>)
-        ensures said { IsLeft self.new ⊎ (self.new.out.items ≡ self.old.out.items ++ reply_text self.old.is_head self.old.server reply.entry false) }
+        ensures said { IsLeft self.new ⊎ (self.new.out.items ≡ self.old.out.items ++ reply_text self.old.server self.old.date self.old.is_head reply.entry false) }
         ensures next { IsAfterAnswer self.new.stage }
         ensures place { self.new.place ≡ self.old.place }
         ensures ended { self.new.has_ended ≡ self.old.has_ended }
@@ -338,15 +360,30 @@ impl Client {
         self.send(reply, false);
     }
 
-    /// Writes an answer. After the last one nothing is read.
-    fn send(&mut self, reply: Reply<'_>, is_last: bool)
-        ensures said { IsLeft self.new ⊎ (self.new.out.items ≡ self.old.out.items ++ reply_text self.old.is_head self.old.server reply.entry is_last) }
-        ensures next { IsAfterAnswer self.new.stage }
+    /// Answers, and reads nothing more. Where no request was read there is no answer.
+    pub fn dismiss(&mut self, reply: Reply<'_>)
+        ensures said { IsLeft self.new ⊎ (self.new.out.items ≡ self.old.out.items ++ reply_text self.old.server self.old.date self.old.is_head reply.entry true) }
+        ensures last { self.new.stage ≡ Stage.Last }
         ensures place { self.new.place ≡ self.old.place }
         ensures ended { self.new.has_ended ≡ self.old.has_ended }
     {
-        let is_head = self.is_head;
-        if write_reply(&mut self.server, &mut self.out, reply, is_head, is_last).is_err() {
+        self.send(reply, true);
+    }
+
+    /// Writes an answer. After the last one nothing is read.
+    fn send(&mut self, reply: Reply<'_>, is_last: bool)
+        ensures said { IsLeft self.new ⊎ (self.new.out.items ≡ self.old.out.items ++ reply_text self.old.server self.old.date self.old.is_head reply.entry is_last) }
+        ensures next { IsAfterAnswer self.new.stage }
+        ensures last { IsTrue is_last → self.new.stage ≡ Stage.Last }
+        ensures place { self.new.place ≡ self.old.place }
+        ensures ended { self.new.has_ended ≡ self.old.has_ended }
+    {
+        let how = Sending {
+            date: self.date,
+            is_head: self.is_head,
+            is_last,
+        };
+        if write_reply(&mut self.server, &mut self.out, reply, how).is_err() {
             return self.leave();
         }
         self.query.clear();

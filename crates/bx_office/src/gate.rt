@@ -1,12 +1,12 @@
 //! Which requests are let through, and where they go.
 
-ghost use Rattle.std.specs.Prelude.{◌≡◌, ◌+◌, ◌≤◌, ◌↔◌, ◌++◌, length, decimal, true, IsTrue, IfSome, IfNone};
+ghost use Rattle.std.specs.Prelude.{◌≡◌, ◌≤◌, true, length, IfSome, IfNone};
 ghost use Rattle.std.specs.Str.{bytes_eq};
-ghost use Rattle.arrayvec.specs.ArrayVec.{array_vec_len};
-ghost use Rattle.bx_office.specs.Gate.{text_of, path_len, path_in, query_in, path_of, takes, is_loopback, is_own_host, IsOriginOf, IsOwnOrigin, ends_type, is_csv, is_typed, IsGated};
+ghost use Rattle.bx_office.specs.Targets.{text_of};
+ghost use Rattle.bx_office.specs.Gate.{path_of, takes, is_known, ends_type, is_csv, is_csv_type, is_typed, has_body, question_of, IsGated};
 
-use arrayvec::ArrayVec;
-use itoa::Buffer;
+use crate::hosts::{is_own_host, is_own_origin};
+use crate::targets::{local_path, named_host, past, path_in};
 
 /// Where the office is opened.
 #[derive(Clone, Copy, Debug, PartialEq, Eq)]
@@ -42,21 +42,45 @@ pub enum Route {
     Metrics,
     /// `GET /healthz`: whether the day goes on.
     Health,
+    /// `OPTIONS *`: which methods there are at all (RFC 9110, section 9.3.7).
+    Office,
 }
 
 /// Why a request is refused. The first that applies is answered, in this order.
 #[derive(Clone, Copy, Debug, PartialEq, Eq)]
 pub enum Refusal {
+    /// 400: of a field that stands once there are two (RFC 9110, section 5.3).
+    Doubled,
     /// 403: the host that it names is another.
     OtherHost,
     /// 403: a page of another origin has sent it.
     OtherOrigin,
+    /// 501: its method is none that is known here (RFC 9110, section 9.1).
+    UnknownMethod,
     /// 404: there is no such path.
     NotFound,
     /// 405: what stands there is not asked for so.
     WrongMethod(Route),
     /// 415: bookings that are not `text/csv`.
     NotCsv,
+    /// 415: bookings that are coded, as by `gzip` (RFC 9110, section 8.4).
+    Coded,
+    /// 411: bookings whose length is not said (RFC 9112, section 6.3).
+    NoLength,
+}
+
+/// What the gate looks at of a request: its method and its target; the fields `Host`, `Origin` and `Content-Type`, where it has them; whether
+/// of a field that stands once there are two; whether its body is coded; and whether it says how long that is.
+#[derive(Clone, Copy)]
+pub struct Request<'a> {
+    pub method: &'a [u8],
+    pub target: &'a [u8],
+    pub host: Option<&'a [u8]>,
+    pub origin: Option<&'a [u8]>,
+    pub content: Option<&'a [u8]>,
+    pub is_doubled: bool,
+    pub is_coded: bool,
+    pub has_length: bool,
 }
 
 /// Whether a text is this word.
@@ -64,26 +88,6 @@ fn is_word(text: &[u8], word: &str) -> bool
     ensures { result ≡ bytes_eq text.now word.now }
 {
     text == word.as_bytes()
-}
-
-/// How many octets a path has, up to the query.
-fn path_len(target: &[u8]) -> usize
-    ensures value { result ≡ path_len target.now }
-    ensures within { result ≤ length target.now }
-{
-    target.iter().take_while(|c| **c != b'?').count()
-}
-
-/// What stands after the path and a question mark.
-#[tactic(auto, using(crate::proofs::Joined::drop_past))]
-pub(crate) fn query_in(target: &[u8]) -> &[u8]
-    ensures { result.now ≡ query_in target.now }
-{
-    let len = path_len(target);
-    if len >= target.len() {
-        return &[];
-    }
-    &target[len + 1..]
 }
 
 /// What stands at a path.
@@ -113,9 +117,25 @@ fn route_at(path: &[u8]) -> Option<Route>
         Some(Route::Metrics)
     } else if is_word(path, "/healthz") {
         Some(Route::Health)
+    } else if is_word(path, "*") {
+        Some(Route::Office)
     } else {
         None
     }
+}
+
+/// Whether a method is one that HTTP has for what stands at a path.
+fn is_known(method: &[u8]) -> bool
+    ensures { result ≡ is_known method.now }
+{
+    is_word(method, "GET")
+        || is_word(method, "HEAD")
+        || is_word(method, "POST")
+        || is_word(method, "PUT")
+        || is_word(method, "DELETE")
+        || is_word(method, "OPTIONS")
+        || is_word(method, "TRACE")
+        || is_word(method, "PATCH")
 }
 
 impl Route {
@@ -125,7 +145,18 @@ impl Route {
     {
         match self {
             Route::Bookings => is_word(method, "POST"),
+            Route::Office => is_word(method, "OPTIONS"),
             _ => is_word(method, "GET") || is_word(method, "HEAD"),
+        }
+    }
+
+    /// Whether its requests have a body that is read.
+    fn has_body(self) -> bool
+        ensures { result ≡ has_body self }
+    {
+        match self {
+            Route::Bookings => true,
+            _ => false,
         }
     }
 
@@ -140,145 +171,75 @@ impl Route {
     }
 }
 
-/// Whether the type ends there.
+/// Whether the type ends there: after white space come parameters, or nothing.
 fn ends_type(rest: &[u8]) -> bool
     ensures { result ≡ ends_type rest.now }
 {
+    for octet in rest {
+        if *octet == b';' {
+            return true;
+        }
+        if *octet != b' ' && *octet != b'\t' {
+            return false;
+        }
+    }
+    true
+}
+
+/// Whether what stands after the type ends it, where the type is the one that is meant.
+fn is_csv_type(rest: Option<&[u8]>) -> bool
+    ensures { result ≡ is_csv_type (text_of rest.entry) }
+{
     match rest {
-        [] => true,
-        [first, ..] => *first == b';' || *first == b' ',
+        Some(rest) => ends_type(rest),
+        None => false,
     }
 }
 
-/// Whether the content is CSV, with whatever parameters.
+/// Whether the content is CSV, with whatever parameters, and whatever the case of the type (RFC 9110, section 8.3.1).
 fn is_csv(content: Option<&[u8]>) -> bool
     ensures { result ≡ is_csv (text_of content.entry) }
 {
-    let Some(content) = content else {
-        return false;
-    };
-    let count = content.len().min(8);
-    is_word(&content[..count], "text/csv") && ends_type(&content[count..])
-}
-
-/// Adds octets to a text. They have to have room.
-fn put(text: &mut ArrayVec<u8, 64>, octets: &[u8])
-    requires { array_vec_len text.old + length octets.now ≤ 64 }
-    ensures items { text.new.items ≡ text.old.items ++ octets.now }
-    ensures len { array_vec_len text.new ≡ array_vec_len text.old + length octets.now }
-{
-    match text.try_extend_from_slice(octets) {
-        Ok(()) => {}
-        Err(_) => unreachable!(),
+    match content {
+        Some(content) => is_csv_type(past(content, b"text/csv")),
+        None => false,
     }
 }
 
-/// The text of a name and a port.
-fn with_port(name: &[u8], port: u16) -> ArrayVec<u8, 64>
-    requires { length name.now ≤ 20 }
-    ensures { result.items ≡ name.now ++ decimal port }
+/// Where a request goes. What is let through names this office, was sent by no page of another origin, and asks for what is there as that is
+/// asked for; bookings come as `text/csv`, which a browser sends to another origin only after a question that is not answered here.
+pub fn let_through(place: Place, request: Request<'_>) -> Result<Route, Refusal>
+    ensures { IsGated place (question_of request.entry) result }
 {
-    let mut text = ArrayVec::new();
-    let mut digits = Buffer::new();
-    put(&mut text, name);
-    put(&mut text, digits.format(port).as_bytes());
-    text
-}
-
-/// Whether a host is a loopback name with this port.
-fn is_loopback(port: u16, host: &[u8]) -> bool
-    ensures { result ≡ is_loopback port host.now }
-{
-    host == with_port(b"localhost:", port).as_slice()
-        || host == with_port(b"127.0.0.1:", port).as_slice()
-        || host == with_port(b"[::1]:", port).as_slice()
-        || (port == 80
-            && (is_word(host, "localhost") || is_word(host, "127.0.0.1") || is_word(host, "[::1]")))
-}
-
-/// Whether the host that a request names is this office.
-fn is_own_host(place: Place, host: Option<&[u8]>) -> bool
-    ensures { result ≡ is_own_host place (text_of host.entry) }
-{
-    match (place, host) {
-        (Place::Socket, _) => true,
-        (Place::Port(_), None) => false,
-        (Place::Port(port), Some(host)) => is_loopback(port, host),
+    let path = path_in(request.target);
+    let absolute = past(path, b"http://");
+    let host = named_host(request.host, absolute);
+    if request.is_doubled {
+        return Err(Refusal::Doubled);
     }
-}
-
-/// Whether these are the same octets.
-fn is_same(one: &[u8], other: &[u8]) -> bool
-    ensures { IsTrue result ↔ (one.now ≡ other.now) }
-{
-    one == other
-}
-
-/// Whether a text is these two, one after the other.
-#[tactic(auto, using(crate::proofs::Joined::is_long, crate::proofs::Joined::has_prefix, crate::proofs::Joined::has_back, crate::proofs::Joined::is_both))]
-fn is_joined(text: &[u8], prefix: &[u8], back: &[u8]) -> bool
-    ensures { IsTrue result ↔ (text.now ≡ prefix.now ++ back.now) }
-{
-    if text.len() < prefix.len() {
-        return false;
-    }
-    if !is_same(&text[..prefix.len()], prefix) {
-        return false;
-    }
-    is_same(&text[prefix.len()..], back)
-}
-
-/// Whether a page of this host has such an origin.
-fn is_origin_of(place: Place, host: &[u8], origin: &[u8]) -> bool
-    ensures { IsTrue result ↔ IsOriginOf place host.now origin.now }
-{
-    match place {
-        Place::Port(_) => is_joined(origin, b"http://", host),
-        Place::Socket => is_joined(origin, b"http://", host)
-            || is_joined(origin, b"https://", host),
-    }
-}
-
-/// Whether no page of another origin has sent the request.
-fn is_own_origin(place: Place, host: Option<&[u8]>, origin: Option<&[u8]>) -> bool
-    ensures { IsTrue result ↔ IsOwnOrigin place (text_of host.entry) (text_of origin.entry) }
-{
-    let Some(origin) = origin else {
-        return true;
-    };
-    let Some(host) = host else {
-        return false;
-    };
-    is_origin_of(place, host, origin)
-}
-
-/// Where a request goes, by its method, its target, and the fields `Host`, `Origin` and `Content-Type`, where it has them. What is let
-/// through names this office, was sent by no page of another origin, and asks for what is there as that is asked for; bookings come as
-/// `text/csv`, which a browser sends to another origin only after a question that is not answered here.
-pub fn let_through(
-    place: Place,
-    method: &[u8],
-    target: &[u8],
-    host: Option<&[u8]>,
-    origin: Option<&[u8]>,
-    content: Option<&[u8]>,
-) -> Result<Route, Refusal>
-    ensures { IsGated place method.now target.now (text_of host.entry) (text_of origin.entry) (text_of content.entry) result }
-{
     if !is_own_host(place, host) {
         return Err(Refusal::OtherHost);
     }
-    if !is_own_origin(place, host, origin) {
+    if !is_own_origin(place, host, request.origin) {
         return Err(Refusal::OtherOrigin);
     }
-    let Some(route) = route_at(&target[..path_len(target)]) else {
+    if !is_known(request.method) {
+        return Err(Refusal::UnknownMethod);
+    }
+    let Some(route) = route_at(local_path(path, absolute)) else {
         return Err(Refusal::NotFound);
     };
-    if !route.takes(method) {
+    if !route.takes(request.method) {
         return Err(Refusal::WrongMethod(route));
     }
-    if !route.is_typed(content) {
+    if !route.is_typed(request.content) {
         return Err(Refusal::NotCsv);
+    }
+    if route.has_body() && request.is_coded {
+        return Err(Refusal::Coded);
+    }
+    if route.has_body() && !request.has_length {
+        return Err(Refusal::NoLength);
     }
     Ok(route)
 }

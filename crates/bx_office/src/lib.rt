@@ -4,11 +4,14 @@
 mod client;
 mod gate;
 mod heads;
+mod hosts;
 mod pages;
 mod refusals;
 mod reply;
+mod targets;
 
 pub use client::{Client, Stage};
-pub use gate::{Place, Refusal, Route, let_through};
+pub use gate::{Place, Refusal, Request, Route, let_through};
 pub use pages::page;
+pub use refusals::{crowded, too_slow};
 pub use reply::{Allowed, Kind, Reply, Status};

@@ -1,5 +1,9 @@
 //! The page of the office, which needs nothing from elsewhere.
 
+ghost use Rattle.std.specs.Prelude.{◌≡◌, true, false, IfSome, IfNone};
+ghost use Rattle.bx_office.specs.Pages.{is_page, allowed_at};
+ghost use Rattle.bx_office.specs.declared.reply.Status.TheVariants as Statuses;
+
 use crate::gate::Route;
 use crate::reply::{Allowed, Kind, Reply, Status};
 
@@ -28,7 +32,7 @@ const HOME: &str = "<!doctype html>
 <tbody id=\"outcomes\"></tbody>
 </table>
 <dl id=\"figures\"></dl>
-<p>As text: <a href=\"/plan\">the plan</a>, <a href=\"/outcomes\">the outcomes</a>, <a href=\"/records\">the call records</a>, <a href=\"/metrics\">the figures</a>.</p>
+<p><a href=\"/chart.svg\">The picture by itself</a>, with the row, the number and the times of each booking under the pointer. As text: <a href=\"/plan\">the plan</a>, <a href=\"/outcomes\">the outcomes</a>, <a href=\"/records\">the call records</a>, <a href=\"/metrics\">the figures</a>.</p>
 </section>
 <section aria-labelledby=\"call-title\">
 <h2 id=\"call-title\">A call</h2>
@@ -165,7 +169,7 @@ const show = async () => {
 at(\"chart\").addEventListener(\"error\", () => { at(\"chart\").hidden = true; });
 at(\"chart\").addEventListener(\"load\", () => { at(\"chart\").hidden = false; });
 show();
-setInterval(show, 10000);
+setInterval(show, 7000);
 ";
 
 const STYLE: &str =
@@ -190,18 +194,32 @@ button { font: inherit; padding: 0.5rem 1rem; margin: 0 0.5rem 0.5rem 0; border:
 #answer:not(:empty) { border-left: 4px solid #111; padding-left: 0.75rem; }
 ";
 
-/// What stands at a path whatever the day is.
-pub fn page(route: Route) -> Option<Reply<'static>> {
+/// What the answer says is allowed: of the office as a whole, all its methods.
+fn allowed_at(route: Route) -> Allowed
+    ensures { result ≡ allowed_at route }
+{
+    match route {
+        Route::Office => Allowed::All,
+        _ => Allowed::Unsaid,
+    }
+}
+
+/// What stands at a path whatever the day is: the page with its parts, and which methods there are.
+pub fn page(route: Route) -> Option<Reply<'static>>
+    ensures none { IfNone result (is_page route ≡ false) }
+    ensures some { IfSome result (λ reply. (is_page route ≡ true) × (reply.status ≡ Statuses.Fine) × (reply.allowed ≡ allowed_at route)) }
+{
     let (kind, body) = match route {
         Route::Home => (Kind::Html, HOME),
         Route::Script => (Kind::Script, SCRIPT),
         Route::Style => (Kind::Style, STYLE),
+        Route::Office => (Kind::Text, ""),
         _ => return None,
     };
     Some(Reply {
         status: Status::Fine,
         kind,
-        allowed: Allowed::Unsaid,
+        allowed: allowed_at(route),
         body: body.as_bytes(),
     })
 }

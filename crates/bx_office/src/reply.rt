@@ -1,12 +1,14 @@
 //! What a client is answered.
 
-ghost use Rattle.std.specs.Prelude.{◌≡◌, ◌++◌, OnOk};
+ghost use Rattle.std.specs.Prelude.{◌≡◌, ◌++◌, ◌/◌, min, OnOk, codes};
 ghost use Rattle.http1.specs.Head.{header_parts};
-ghost use Rattle.bx_office.specs.Replies.{code_of, reason_phrase_of, type_of, allowed_of, head_text, after_head, body_text, after_body, reply_text};
+ghost use Rattle.httpdate.specs.Date.{date_text, unix_secs};
+ghost use Rattle.bx_office.specs.Replies.{code_of, reason_phrase_of, type_of, policy_of, allowed_of, advice_of, head_text, after_head, body_text, after_body, reply_text};
 ghost use Rattle.bx_office.specs.Inside.{after_reply};
 
 use bytes::BytesMut;
 use http1::{BodySize, Header, Server, WriteError};
+use httpdate::HttpDate;
 
 /// How an answer begins.
 #[derive(Clone, Copy, Debug, PartialEq, Eq)]
@@ -16,12 +18,15 @@ pub enum Status {
     Forbidden,
     NotFound,
     MethodNotAllowed,
+    RequestTimeout,
+    LengthRequired,
     ContentTooLarge,
     UriTooLong,
     UnsupportedMediaType,
     HeadTooLarge,
     NotImplemented,
     Unavailable,
+    OtherVersion,
 }
 
 impl Status {
@@ -35,12 +40,15 @@ impl Status {
             Status::Forbidden => 403,
             Status::NotFound => 404,
             Status::MethodNotAllowed => 405,
+            Status::RequestTimeout => 408,
+            Status::LengthRequired => 411,
             Status::ContentTooLarge => 413,
             Status::UriTooLong => 414,
             Status::UnsupportedMediaType => 415,
             Status::HeadTooLarge => 431,
             Status::NotImplemented => 501,
             Status::Unavailable => 503,
+            Status::OtherVersion => 505,
         }
     }
 
@@ -54,12 +62,15 @@ impl Status {
             Status::Forbidden => "Forbidden",
             Status::NotFound => "Not Found",
             Status::MethodNotAllowed => "Method Not Allowed",
+            Status::RequestTimeout => "Request Timeout",
+            Status::LengthRequired => "Length Required",
             Status::ContentTooLarge => "Content Too Large",
             Status::UriTooLong => "URI Too Long",
             Status::UnsupportedMediaType => "Unsupported Media Type",
             Status::HeadTooLarge => "Request Header Fields Too Large",
             Status::NotImplemented => "Not Implemented",
             Status::Unavailable => "Service Unavailable",
+            Status::OtherVersion => "HTTP Version Not Supported",
         }
     }
 }
@@ -93,12 +104,21 @@ impl Kind {
     }
 }
 
-/// Which methods a path has, where an answer says so.
+/// What is allowed, where an answer says so: methods, or codings of a body.
 #[derive(Clone, Copy, Debug, PartialEq, Eq)]
 pub enum Allowed {
+    /// Nothing is said.
     Unsaid,
+    /// `POST`.
     Post,
+    /// `GET` and `HEAD`.
     Get,
+    /// `OPTIONS`.
+    Options,
+    /// All methods of the office.
+    All,
+    /// A body that is not coded.
+    Uncoded,
 }
 
 /// An answer.
@@ -110,9 +130,37 @@ pub struct Reply<'a> {
     pub body: &'a [u8],
 }
 
+/// How an answer is sent: at which date, whether to `HEAD`, and whether it is the last of its connection.
+#[derive(Clone, Copy)]
+pub(crate) struct Sending {
+    pub(crate) date: HttpDate,
+    pub(crate) is_head: bool,
+    pub(crate) is_last: bool,
+}
+
 /// A page loads nothing from elsewhere, stands in no frame, and is not kept.
-const POLICY: &str =
+const PAGE_POLICY: &str =
     "default-src 'none'; script-src 'self'; style-src 'self'; img-src 'self'; connect-src 'self'; base-uri 'none'; form-action 'none'; frame-ancestors 'none'";
+
+/// A picture has its own two styles, each by its SHA-256, and loads nothing at all.
+const PICTURE_POLICY: &str =
+    "default-src 'none'; style-src 'sha256-M/jgx+JukTEih3X3OsOlDO/XRUPJp63hsSRE2E/jUv4=' 'sha256-HKscL3gRVMMmN6Wrq5ISygC6aNvyh6qLUrjz3SceGcQ='; base-uri 'none'; form-action 'none'; frame-ancestors 'none'";
+
+/// A second, in nanoseconds.
+const SECOND: u128 = 1_000_000_000;
+
+/// The last second of the year 9999, after which HTTP has no dates.
+const LAST: u128 = 253_402_300_799;
+
+/// The date at which the clock shows so many nanoseconds since 1970, or the last date that there is.
+pub(crate) fn date_at(shown: u128) -> HttpDate
+    ensures { unix_secs result ≡ min (shown / 1_000_000_000) 253_402_300_799 }
+{
+    match HttpDate::from_unix_secs((shown / SECOND).min(LAST) as u64) {
+        Ok(date) => date,
+        Err(_) => unreachable!(),
+    }
+}
 
 /// A field of an answer.
 fn field<'a>(name: &'a str, value: &'a str) -> Header<'a>
@@ -124,7 +172,27 @@ fn field<'a>(name: &'a str, value: &'a str) -> Header<'a>
     }
 }
 
-/// The field that says which methods a path has; where it says nothing, one that every answer may have.
+/// The field that says when an answer was made (RFC 9110, section 6.6.1).
+fn date_field(date: &[u8; 29]) -> Header<'_>
+    ensures { header_parts result ≡ (codes "date", date.now) }
+{
+    Header {
+        name: "date".as_bytes(),
+        value: date,
+    }
+}
+
+/// What kinds of answers may load.
+fn policy_of(kind: Kind) -> &'static str
+    ensures { result.now ≡ policy_of kind }
+{
+    match kind {
+        Kind::Picture => PICTURE_POLICY,
+        _ => PAGE_POLICY,
+    }
+}
+
+/// The field that says what is allowed; where it says nothing, one that every answer may have.
 fn allowed_field(allowed: Allowed) -> Header<'static>
     ensures { header_parts result ≡ allowed_of allowed }
 {
@@ -132,6 +200,19 @@ fn allowed_field(allowed: Allowed) -> Header<'static>
         Allowed::Unsaid => field("vary", "origin"),
         Allowed::Post => field("allow", "POST"),
         Allowed::Get => field("allow", "GET, HEAD"),
+        Allowed::Options => field("allow", "OPTIONS"),
+        Allowed::All => field("allow", "GET, HEAD, POST, OPTIONS"),
+        Allowed::Uncoded => field("accept-encoding", "identity"),
+    }
+}
+
+/// The field that says what is allowed; or when to ask again, where there is no answer now.
+fn advice_field(status: Status, allowed: Allowed) -> Header<'static>
+    ensures { header_parts result ≡ advice_of status allowed }
+{
+    match status {
+        Status::Unavailable => field("retry-after", "1"),
+        _ => allowed_field(allowed),
     }
 }
 
@@ -139,26 +220,30 @@ fn allowed_field(allowed: Allowed) -> Header<'static>
 fn write_head(
     server: &mut Server,
     out: &mut BytesMut,
+    date: HttpDate,
     reply: Reply<'_>,
     is_last: bool,
 ) -> Result<(), WriteError>
-    ensures text { OnOk result (out.new.items ≡ out.old.items ++ head_text server.old reply.entry is_last) }
-    ensures next { OnOk result (server.new ≡ after_head server.old reply.entry is_last) }
+    ensures text { OnOk result (out.new.items ≡ out.old.items ++ head_text server.old date reply.entry is_last) }
+    ensures next { OnOk result (server.new ≡ after_head server.old date reply.entry is_last) }
 {
     let code = reply.status.code();
     let reason = reply.status.reason().as_bytes();
     let size = BodySize::Known(reply.body.len() as u64);
+    let octets = date.to_bytes();
+    let dated = date_field(&octets);
     let kind = field("content-type", reply.kind.content_type());
     let kept = field("cache-control", "no-store");
     let sniffed = field("x-content-type-options", "nosniff");
-    let policy = field("content-security-policy", POLICY);
-    let allowed = allowed_field(reply.allowed);
+    let shared = field("cross-origin-resource-policy", "same-origin");
+    let policy = field("content-security-policy", policy_of(reply.kind));
+    let advice = advice_field(reply.status, reply.allowed);
     if is_last {
         let last = field("connection", "close");
-        let fields = [kind, kept, sniffed, policy, allowed, last];
+        let fields = [dated, kind, kept, sniffed, shared, policy, advice, last];
         return server.write_response(out, code, reason, &fields, size);
     }
-    let fields = [kind, kept, sniffed, policy, allowed];
+    let fields = [dated, kind, kept, sniffed, shared, policy, advice];
     server.write_response(out, code, reason, &fields, size)
 }
 
@@ -183,13 +268,12 @@ pub(crate) fn write_reply(
     server: &mut Server,
     out: &mut BytesMut,
     reply: Reply<'_>,
-    is_head: bool,
-    is_last: bool,
+    how: Sending,
 ) -> Result<(), WriteError>
-    ensures text { OnOk result (out.new.items ≡ out.old.items ++ reply_text is_head server.old reply.entry is_last) }
-    ensures next { OnOk result (server.new ≡ after_reply is_head server.old reply.entry is_last) }
+    ensures text { OnOk result (out.new.items ≡ out.old.items ++ reply_text server.old how.date how.is_head reply.entry how.is_last) }
+    ensures next { OnOk result (server.new ≡ after_reply server.old how reply.entry) }
 {
-    write_head(server, out, reply, is_last)?;
-    write_body(server, out, reply.body, is_head)?;
+    write_head(server, out, how.date, reply, how.is_last)?;
+    write_body(server, out, reply.body, how.is_head)?;
     server.write_end(out, &[])
 }

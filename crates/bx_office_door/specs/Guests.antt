@@ -35,7 +35,7 @@ client_of number (g ∷ more) = if g.number == number then Some g.client else cl
 
 -- what an answer makes of a client
 pub record IsReplied (reply : Reply) (old new : Client) : Type 0 where
-  pub said : IsLeft new ⊎ (new.out.items ≡ old.out.items ++ reply_text old.is_head old.server reply false)
+  pub said : IsLeft new ⊎ (new.out.items ≡ old.out.items ++ reply_text old.server old.date old.is_head reply false)
   pub next : IsAfterAnswer new.stage
   pub place : new.place ≡ old.place
 

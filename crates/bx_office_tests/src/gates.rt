@@ -1,6 +1,6 @@
 //! Which requests are let through.
 
-use bx_office::{Place, Refusal, Route, let_through};
+use bx_office::{Place, Refusal, Request, Route, let_through};
 
 /// A request: its name, the place, the method, the target, the host, the origin, the content type, and where it goes.
 type Case = (
@@ -18,7 +18,7 @@ const PORT: Place = Place::Port(8080);
 
 const FOUND: Refusal = Refusal::NotFound;
 
-static CASES: [Case; 36] = [
+static CASES: [Case; 46] = [
     (
         "home",
         PORT,
@@ -333,11 +333,111 @@ static CASES: [Case; 36] = [
         "the absolute form",
         PORT,
         "GET",
-        "http://localhost:8080/",
+        "http://localhost:8080/plan",
+        "example.org",
+        "",
+        "",
+        Ok(Route::Plan),
+    ),
+    (
+        "the absolute form in capitals, of the root, with a query",
+        PORT,
+        "GET",
+        "HTTP://LocalHost:8080?1",
+        "localhost:8080",
+        "http://LOCALHOST:8080",
+        "",
+        Ok(Route::Home),
+    ),
+    (
+        "the absolute form of another host",
+        PORT,
+        "GET",
+        "http://example.org/plan",
+        "localhost:8080",
+        "",
+        "",
+        Err(Refusal::OtherHost),
+    ),
+    (
+        "the absolute form with a user",
+        PORT,
+        "GET",
+        "http://me@localhost:8080/plan",
+        "localhost:8080",
+        "",
+        "",
+        Err(Refusal::OtherHost),
+    ),
+    (
+        "another scheme",
+        PORT,
+        "GET",
+        "ftp://localhost:8080/plan",
         "localhost:8080",
         "",
         "",
         Err(FOUND),
+    ),
+    (
+        "the office as a whole",
+        PORT,
+        "OPTIONS",
+        "*",
+        "localhost:8080",
+        "",
+        "",
+        Ok(Route::Office),
+    ),
+    (
+        "a host in capitals",
+        PORT,
+        "GET",
+        "/",
+        "LOCALHOST:8080",
+        "HTTP://localhost:8080",
+        "",
+        Ok(Route::Home),
+    ),
+    (
+        "a tunnel",
+        PORT,
+        "CONNECT",
+        "localhost:8080",
+        "localhost:8080",
+        "",
+        "",
+        Err(Refusal::UnknownMethod),
+    ),
+    (
+        "a method in small letters",
+        PORT,
+        "get",
+        "/",
+        "localhost:8080",
+        "",
+        "",
+        Err(Refusal::UnknownMethod),
+    ),
+    (
+        "a type in capitals",
+        PORT,
+        "POST",
+        "/bookings",
+        "localhost:8080",
+        "",
+        "TEXT/csv \t; charset=utf-8",
+        Ok(Route::Bookings),
+    ),
+    (
+        "two types in one",
+        PORT,
+        "POST",
+        "/bookings",
+        "localhost:8080",
+        "",
+        "text/csv, text/plain",
+        Err(Refusal::NotCsv),
     ),
     (
         "bookings got",
@@ -389,22 +489,65 @@ fn field(text: &'static str) -> Option<&'static [u8]> {
     Some(text.as_bytes())
 }
 
-/// Whether the gate answers so.
-fn answers(case: &Case) -> bool {
-    let found = let_through(
-        case.1,
-        case.2.as_bytes(),
-        case.3.as_bytes(),
-        field(case.4),
-        field(case.5),
-        field(case.6),
-    );
-    found == case.7
+/// The request of a case.
+fn request(case: &Case) -> Request<'static> {
+    Request {
+        method: case.2.as_bytes(),
+        target: case.3.as_bytes(),
+        host: field(case.4),
+        origin: field(case.5),
+        content: field(case.6),
+        is_doubled: false,
+        is_coded: false,
+        has_length: true,
+    }
 }
 
 #[test]
 fn requests_go_where_they_may(rt: HostRuntime) {
     for case in &CASES {
-        assert!(rt; answers(case), "{}", case.0);
+        assert!(rt; let_through(case.1, request(case)) == case.7, "{}", case.0);
+    }
+}
+
+/// What else is looked at: its name, the method and the target, whether a field stands twice, whether the body is coded, whether its length is
+/// said, and where the request goes.
+type Body = (
+    &'static str,
+    &'static str,
+    &'static str,
+    bool,
+    bool,
+    bool,
+    Result<Route, Refusal>,
+);
+
+static BODIES: [Body; 6] = [
+    ("twice", "GET", "/plan", true, false, true, Err(Refusal::Doubled)),
+    ("coded", "POST", "/bookings", false, true, true, Err(Refusal::Coded)),
+    ("no length", "POST", "/bookings", false, false, false, Err(Refusal::NoLength)),
+    ("coded, no length", "POST", "/bookings", false, true, false, Err(Refusal::Coded)),
+    ("a page, coded", "GET", "/plan", false, true, true, Ok(Route::Plan)),
+    ("a page, no length", "GET", "/plan", false, false, false, Ok(Route::Plan)),
+];
+
+/// The request of such a case.
+fn bodied(body: &Body) -> Request<'static> {
+    Request {
+        method: body.1.as_bytes(),
+        target: body.2.as_bytes(),
+        host: Some(b"localhost:8080"),
+        origin: None,
+        content: Some(b"text/csv"),
+        is_doubled: body.3,
+        is_coded: body.4,
+        has_length: body.5,
+    }
+}
+
+#[test]
+fn bodies_are_let_through(rt: HostRuntime) {
+    for body in &BODIES {
+        assert!(rt; let_through(PORT, bodied(body)) == body.6, "{}", body.0);
     }
 }

@@ -64,11 +64,20 @@ fn is_told_so(stream: &mut TcpStream, prefix: &str, back: &str) -> bool {
     }
 }
 
-/// Whether a client gets just this.
+/// How an answer begins, up to the second of its date, and how many octets the rest of the date has.
+const BEGINS: &str = "HTTP/1.1 200 OK\r\ndate: Thu, 01 Jan 1970 00:00:";
+
+const DATE_ENDS: usize = 8;
+
+/// Whether a client gets an answer with just this after its date, which is in the first minute.
 fn is_told(stream: &mut TcpStream, expected: &str) -> bool {
     let mut room = [0u8; 4096];
     match stream.read(&mut room) {
-        Ok(count) if count <= 4096 => &room[..count] == expected.as_bytes(),
+        Ok(count) if count <= 4096 && count >= BEGINS.len() + DATE_ENDS => {
+            let text = &room[..count];
+            text.starts_with(BEGINS.as_bytes())
+                && &text[BEGINS.len() + DATE_ENDS..] == expected.as_bytes()
+        }
         _ => false,
     }
 }
@@ -162,11 +171,11 @@ const FOREIGN: &str =
 
 /// What who sent them is told.
 const SOLD: &str =
-    "HTTP/1.1 200 OK\r\ncontent-type: text/csv; charset=utf-8\r\ncache-control: no-store\r\nx-content-type-options: nosniff\r\ncontent-security-policy: default-src 'none'; script-src 'self'; style-src 'self'; img-src 'self'; connect-src 'self'; base-uri 'none'; form-action 'none'; frame-ancestors 'none'\r\nvary: origin\r\ncontent-length: 76\r\n\r\nrow,answer,plan row,reason\n1,accepted,3,\n2,refused,,NoChannel\n3,accepted,4,\n";
+    "content-type: text/csv; charset=utf-8\r\ncache-control: no-store\r\nx-content-type-options: nosniff\r\ncross-origin-resource-policy: same-origin\r\ncontent-security-policy: default-src 'none'; script-src 'self'; style-src 'self'; img-src 'self'; connect-src 'self'; base-uri 'none'; form-action 'none'; frame-ancestors 'none'\r\nvary: origin\r\ncontent-length: 76\r\n\r\nrow,answer,plan row,reason\n1,accepted,3,\n2,refused,,NoChannel\n3,accepted,4,\n";
 
 /// What who asks for the outcomes is told.
 const OUTCOMES: &str =
-    "HTTP/1.1 200 OK\r\ncontent-type: text/plain; charset=utf-8\r\ncache-control: no-store\r\nx-content-type-options: nosniff\r\ncontent-security-policy: default-src 'none'; script-src 'self'; style-src 'self'; img-src 'self'; connect-src 'self'; base-uri 'none'; form-action 'none'; frame-ancestors 'none'\r\nvary: origin\r\ncontent-length: 37\r\n\r\n1 waiting\n2 waiting\nmaintenance none\n";
+    "content-type: text/plain; charset=utf-8\r\ncache-control: no-store\r\nx-content-type-options: nosniff\r\ncross-origin-resource-policy: same-origin\r\ncontent-security-policy: default-src 'none'; script-src 'self'; style-src 'self'; img-src 'self'; connect-src 'self'; base-uri 'none'; form-action 'none'; frame-ancestors 'none'\r\nvary: origin\r\ncontent-length: 37\r\n\r\n1 waiting\n2 waiting\nmaintenance none\n";
 
 #[test]
 fn a_customer_is_sold_to_and_told(rt: HostRuntime) -> Result<(), Fail> {
@@ -191,7 +200,7 @@ fn what_is_short_or_after_the_day_is_told(rt: HostRuntime) -> Result<(), Fail> {
     assert!(rt;
         is_told_so(
             &mut customer,
-            "HTTP/1.1 200 OK\r\ncontent-type: text/csv; charset=utf-8\r\n",
+            "HTTP/1.1 200 OK\r\ndate: Thu, 01 Jan 1970 00:00:01 GMT\r\ncontent-type: text/csv; charset=utf-8\r\n",
             "\r\n\r\nrow,answer,plan row,reason\n1,accepted,3,TooShort\n2,accepted,4,\n3,refused,,AfterTheDay\n"
         ),
         "told"
@@ -210,7 +219,7 @@ fn who_left_is_told_by_nobody_else(rt: HostRuntime) -> Result<(), Fail> {
     assert!(rt;
         is_told_so(
             &mut another,
-            "HTTP/1.1 200 OK\r\ncontent-type: text/plain",
+            "HTTP/1.1 200 OK\r\ndate: Thu, 01 Jan 1970 00:00:01 GMT\r\ncontent-type: text/plain",
             "\r\ncontent-length: 0\r\n\r\n"
         ),
         "told its own"
@@ -393,7 +402,7 @@ fn a_picture_is_drawn(rt: HostRuntime) -> Result<(), Fail> {
     assert!(rt;
         is_told_so(
             &mut asking,
-            "HTTP/1.1 200 OK\r\ncontent-type: image/svg+xml\r\n",
+            "HTTP/1.1 200 OK\r\ndate: Thu, 01 Jan 1970 00:00:01 GMT\r\ncontent-type: image/svg+xml\r\n",
             ""
         ),
         "a picture"

@@ -102,7 +102,12 @@ pub fn answer_of(
         Route::Chart => of_kind(Kind::Picture, drawn(alloc, opened, exchange, sight)),
         Route::Metrics => of_kind(Kind::Metrics, metrics_text(alloc, exchange, figures)),
         // That the day goes on needs no text; the door answers with the page and its parts, and bookings are sold.
-        Route::Health | Route::Home | Route::Script | Route::Style | Route::Bookings => {
+        Route::Health
+        | Route::Home
+        | Route::Script
+        | Route::Style
+        | Route::Bookings
+        | Route::Office => {
             of_kind(Kind::Text, Ok(Vec::new(alloc)))
         }
     }
