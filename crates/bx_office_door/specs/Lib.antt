@@ -4,3 +4,4 @@ pub mod Guests
 pub mod Places
 pub mod Doors
 pub mod Inside
+pub mod Patience

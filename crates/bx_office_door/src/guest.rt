@@ -1,14 +1,21 @@
 //! A client at the door.
 
-ghost use Rattle.std.specs.Prelude.{◌≡◌, false, Some};
+ghost use Rattle.std.specs.Prelude.{◌≡◌, false, Some, length};
 ghost use Rattle.bx_office_door.specs.Guests.{IsGuestTold};
+ghost use Rattle.bx_office_door.specs.Patience.{patience_of, is_late};
 
 use crate::stream::{Came, Stream};
-use bx_office::{Client, Place, Reply, Stage, page};
+use bx_office::{Client, Place, Reply, Stage, page, too_slow};
 use std::alloc::Global;
 
 /// How long a request takes at most, and how long the next one is waited for: 10 seconds, in nanoseconds.
 const PATIENCE: u128 = 10_000_000_000;
+
+/// How many octets of a body give it a second more.
+const BODY_A_SECOND: usize = 16_384;
+
+/// A second, in nanoseconds.
+const SECOND: u128 = 1_000_000_000;
 
 /// How often is read and written at a time, at most, and how many things are read of what came.
 const TURNS: u32 = 64;
@@ -21,7 +28,7 @@ pub struct Guest {
     number: u64,
     stream: Stream,
     client: Client,
-    /// When it came, or was sent its last answer, in nanoseconds; not known yet where it was just answered.
+    /// When it came, was sent its last answer, or began its request, in nanoseconds; not known yet where it was just answered.
     since: Option<u128>,
     /// Nothing more is sent: what still comes is thrown away, so that the answer is not lost with it.
     is_shut: bool,
@@ -76,8 +83,8 @@ impl Guest {
         self.since = None;
     }
 
-    /// Reads once. Answers whether something came.
-    fn read(&mut self) -> bool
+    /// Reads once. Answers whether something came. With its first octet a request has its time before it.
+    fn read(&mut self, now: u128) -> bool
         ensures { self.new.number ≡ self.old.number }
     {
         let mut room = [0u8; 4096];
@@ -88,6 +95,9 @@ impl Guest {
         match self.stream.receive(&mut room[..most]) {
             Came::Nothing => false,
             Came::Octets(count) => {
+                if self.client.is_between() {
+                    self.since = Some(now);
+                }
                 self.client.take(&room[..count]);
                 true
             }
@@ -163,37 +173,67 @@ impl Guest {
         if self.client.is_over() {
             return self.drain();
         }
-        let has_read = self.read();
+        let has_read = self.read(now);
         self.advance();
         let has_written = self.write(now);
         has_read || has_written
     }
 
+    /// How long it has: a body has a second more for so many octets of it.
+    fn patience(&self) -> u128
+        ensures { result ≡ patience_of (length self.now.client.body.items) }
+    {
+        let octets = self.client.body().len() / BODY_A_SECOND;
+        PATIENCE + octets as u128 * SECOND
+    }
+
     /// Whether its time is over. A request that waits for its answer has time.
-    fn is_late(&self, now: u128) -> bool {
+    fn is_late(&self, now: u128) -> bool
+        ensures { result ≡ is_late now self.now.since self.now.client }
+    {
         match self.since {
             Some(since) => {
                 !matches!(self.client.stage(), Stage::Asked(_))
-                    && now.saturating_sub(since) > PATIENCE
+                    && now.saturating_sub(since) > self.patience()
             }
             None => false,
         }
     }
 
-    /// Moves what is ready, and never waits.
-    pub fn attend(&mut self, now: u128)
+    /// Gives the client up. Where the rest of a body is due it is told so, and has the time to read that.
+    fn give_up(&mut self, now: u128)
         ensures { self.new.number ≡ self.old.number }
     {
-        if self.is_late(now) {
-            self.is_gone = true;
-        }
-        if self.since.is_none() {
+        if let Stage::Body(_) = self.client.stage() {
+            self.client.dismiss(too_slow());
             self.since = Some(now);
+            return;
         }
+        self.is_gone = true;
+    }
+
+    /// Moves what is ready, as often as something is.
+    fn go_on(&mut self, now: u128)
+        ensures { self.new.number ≡ self.old.number }
+    {
         for _turn in 0..TURNS {
             if self.is_gone || !self.turn(now) {
                 return;
             }
+        }
+    }
+
+    /// Moves what is ready, and never waits. Whoever asks again at the last moment is heard before it is sent away.
+    pub fn attend(&mut self, now: u128)
+        ensures { self.new.number ≡ self.old.number }
+    {
+        self.client.set_clock(now);
+        if self.since.is_none() {
+            self.since = Some(now);
+        }
+        self.go_on(now);
+        if self.is_late(now) {
+            self.give_up(now);
         }
     }
 }

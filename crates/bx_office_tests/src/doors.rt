@@ -87,7 +87,7 @@ fn the_page_needs_nothing_of_the_day(rt: HostRuntime) -> Result<(), Fail> {
             &mut door,
             &mut stream,
             0,
-            b"HTTP/1.1 200 OK\r\ncontent-type: text/html"
+            b"HTTP/1.1 200 OK\r\ndate: Thu, 01 Jan 1970 00:00:00 GMT\r\ncontent-type: text/html"
         ),
         "the page"
     );
@@ -105,7 +105,7 @@ fn a_request_waits_for_its_answer(rt: HostRuntime) -> Result<(), Fail> {
             &mut door,
             &mut stream,
             20 * SECOND,
-            b"HTTP/1.1 200 OK\r\ncontent-type: text/plain"
+            b"HTTP/1.1 200 OK\r\ndate: Thu, 01 Jan 1970 00:00:00 GMT\r\ncontent-type: text/plain"
         ),
         "answered"
     );
@@ -126,6 +126,56 @@ fn a_slow_client_is_sent_away(rt: HostRuntime) -> Result<(), Fail> {
         "beside it"
     );
     assert!(rt; begins(&mut door, &mut slow, 11 * SECOND, b""), "sent away");
+    Ok(())
+}
+
+#[test]
+fn who_asks_again_at_the_last_moment_is_heard(rt: HostRuntime) -> Result<(), Fail> {
+    let (mut door, port) = opened(&rt, rt.alloc())?;
+    let sent = request(rt.alloc(), "/plan", port)?;
+    let mut kept = client(&rt, port, &sent)?;
+    assert!(rt; asks(&mut door, 0) == Some(Route::Plan), "asked");
+    assert!(rt; begins(&mut door, &mut kept, SECOND, b"HTTP/1.1 200 OK"), "answered");
+    kept.write_all(&sent)?;
+    assert!(rt; asks(&mut door, 12 * SECOND) == Some(Route::Plan), "asked again");
+    assert!(rt; begins(&mut door, &mut kept, 12 * SECOND, b"HTTP/1.1 200 OK"), "answered again");
+    assert!(rt; begins(&mut door, &mut kept, 23 * SECOND, b""), "sent away");
+    Ok(())
+}
+
+#[test]
+fn a_request_has_its_time_from_its_first_octet(rt: HostRuntime) -> Result<(), Fail> {
+    let (mut door, port) = opened(&rt, rt.alloc())?;
+    let sent = request(rt.alloc(), "/", port)?;
+    let mut late = client(&rt, port, b"")?;
+    for _turn in 0..100u32 {
+        door.attend(0);
+    }
+    late.write_all(&sent[..9])?;
+    for _turn in 0..100u32 {
+        door.attend(9 * SECOND);
+    }
+    late.write_all(&sent[9..])?;
+    assert!(rt; begins(&mut door, &mut late, 18 * SECOND, b"HTTP/1.1 200 OK"), "answered");
+    Ok(())
+}
+
+#[test]
+fn a_body_that_comes_slowly_has_more_time(rt: HostRuntime) -> Result<(), Fail> {
+    let (mut door, port) = opened(&rt, rt.alloc())?;
+    let head = format!(in rt.alloc(); "POST /bookings HTTP/1.1\r\nHost: localhost:{port}\r\nContent-Type: text/csv\r\nContent-Length: 50000\r\n\r\n")?;
+    let mut slow = client(&rt, port, head.as_bytes())?;
+    for _piece in 0..8u32 {
+        slow.write_all(&[b'1'; 4096])?;
+    }
+    for _turn in 0..100u32 {
+        door.attend(0);
+    }
+    assert!(rt; !begins(&mut door, &mut slow, 11 * SECOND, b""), "it has more time");
+    assert!(rt;
+        begins(&mut door, &mut slow, 13 * SECOND, b"HTTP/1.1 408 Request Timeout\r\n"),
+        "it is too slow"
+    );
     Ok(())
 }
 
