@@ -55,8 +55,10 @@ impl Exchange {
     /// An exclusive channel is taken or no other; a preferred one where it is open, and else the lowest.
     fn called_at(&mut self, reference: u16, channel: Channel, exclusive: bool) -> Option<Out>
         requires { IsCallReference reference }
-        ensures day { (rules : Rules) (flag : Bool) (m : PlainMessage) → self.new ≡ (called_for self.old (said_under rules reference flag m) channel exclusive).day }
-        ensures reply { (rules : Rules) (flag : Bool) (m : PlainMessage) → result ≡ (called_for self.old (said_under rules reference flag m) channel exclusive).reply }
+        ensures day { (rules : Rules) (flag : Bool) (m : PlainMessage) →
+            self.new ≡ (called_for self.old (said_under rules reference flag m) channel exclusive).day }
+        ensures reply { (rules : Rules) (flag : Bool) (m : PlainMessage) →
+            result ≡ (called_for self.old (said_under rules reference flag m) channel exclusive).reply }
     {
         if exclusive {
             let index = self.open_on(channel);

@@ -9,7 +9,7 @@ use Rattle.bx_journal.specs.declared.head.TheConstants.{RULES, OLDER_RULES}
 use Rattle.bx_journal.specs.declared.head.Wanted.{Wanted}
 use Rattle.bx_journal.specs.declared.version.Version.{Version}
 use Rattle.bx_journal.specs.declared.version.Version.TheVariants.{Undated, Older, Dated}
-use Rattle.bx_journal.specs.Versions.{has_day, head_lines}
+use Rattle.bx_journal.specs.Versions.{has_day, head_size}
 use Rattle.bx_journal.specs.Lines.{whole_lines}
 use Rattle.bx_journal.specs.Numbers.{number_on}
 use Rattle.bx_journal.specs.Text.{plan_line}
@@ -83,7 +83,7 @@ module _ (wanted : Wanted) (any : wanted.day ≡ None) where
   events_other v n (line ∷ lines) e = one n (event_on v line) (events_on v (n + 1) lines) (λ is. events_other v (n + 1) lines is) e
 
   by_head : (lines : List (List ℕ)) (r : Result Version JournalFault) → head_on wanted lines ≡ r → events_after r lines ≡ err_of OtherDay → ⊥
-  by_head lines (Ok v) is e = events_other v (head_lines v + 1) (drop (head_lines v) lines) e
+  by_head lines (Ok v) is e = events_other v (head_size v + 1) (drop (head_size v) lines) e
   by_head lines (Err f) is e = head_other lines (is ∙ ap err_of (same_events_fault f OtherDay e)) where
     same_events_fault : (f g : JournalFault) → err_of {T = List LiveEvent} f ≡ err_of g → f ≡ g
     same_events_fault f g e = cc

@@ -17,7 +17,7 @@ use Rattle.bx_journal.specs.Heads.{IsJournalDay, IsWantedDay}
 use Rattle.bx_journal.specs.Inside.{HasNoLf}
 use Rattle.bx_journal.specs.Numbers.{number_on, space_at}
 use Rattle.bx_journal.specs.Hex.{hex_of}
-use Rattle.bx_journal.specs.Text.{rules_line, first_line, plan_line, day_line}
+use Rattle.bx_journal.specs.Text.{rules_line, version_line, plan_line, day_line}
 use Rattle.bx_journal.specs.Reading.{older_version, dated_by, version_on, is_plan_line, plan_on, live_of, live_on, day_on, is_day, fits_day}
 use Rattle.bx_journal.proofs.NumbersRead.{IsNumberOf, decimal_digits, number_read, number_spelled, decimal_short, none_long, decimal_without_lf, space_after, space_parts, decimal_some}
 use Rattle.bx_journal.proofs.Digits.{hex_length}
@@ -34,19 +34,19 @@ small_rules = omega arith
 small_older : OLDER_RULES < 4294967296
 small_older = omega arith
 
-pub first_without_lf : (v : Version) → HasNoLf (first_line v)
+pub first_without_lf : (v : Version) → HasNoLf (version_line v)
 first_without_lf Undated = (refl, (refl, (refl, (refl, (refl, (refl, (refl, (refl, (refl, (refl, (refl, (refl, tt))))))))))))
 first_without_lf Older = rules_without_lf OLDER_RULES small_older
 first_without_lf Dated = rules_without_lf RULES small_rules
 
 -- where it is read
-pub first_read : (v : Version) (day : Option JournalDay) → IsReadWhere v day → version_on day (first_line v) ≡ Ok v
+pub first_read : (v : Version) (day : Option JournalDay) → IsReadWhere v day → version_on day (version_line v) ≡ Ok v
 first_read Undated day read = ap (older_version Undated) (read refl)
 first_read Older day read = ap (dated_by day) (number_read OLDER_RULES small_older) ∙ ap (older_version Older) (read refl)
 first_read Dated day read = ap (dated_by day) (number_read RULES small_rules)
 
 -- and where it is not
-pub first_refused : (v : Version) (wanted : Option JournalDay) (day : JournalDay) → wanted ≡ Some day → is_older v ≡ true → version_on wanted (first_line v) ≡ Err OtherRules
+pub first_refused : (v : Version) (wanted : Option JournalDay) (day : JournalDay) → wanted ≡ Some day → is_older v ≡ true → version_on wanted (version_line v) ≡ Err OtherRules
 first_refused Undated wanted day some older = ap (older_version Undated) some
 first_refused Older wanted day some older = ap (dated_by wanted) (number_read OLDER_RULES small_older) ∙ ap (older_version Older) some
 first_refused Dated wanted day some older = absurd cc
@@ -63,10 +63,10 @@ version_inj v w e = cc
 
 -- what a first line is that has no fault
 pub record IsFirstLine (day : Option JournalDay) (line : List ℕ) (v : Version) : Type 0 where
-  pub is : line ≡ first_line v
+  pub is : line ≡ version_line v
   pub is_read : IsReadWhere v day
 
-by_older : (w : Version) (day : Option JournalDay) (line : List ℕ) (v : Version) → line ≡ first_line w → older_version w day ≡ Ok v → IsFirstLine day line v
+by_older : (w : Version) (day : Option JournalDay) (line : List ℕ) (v : Version) → line ≡ version_line w → older_version w day ≡ Ok v → IsFirstLine day line v
 by_older w None line v is e = subst (IsFirstLine None line) (version_inj _ _ e) (record { is = is; is_read = λ older. refl })
 by_older w (Some day) line v is e = absurd cc
 

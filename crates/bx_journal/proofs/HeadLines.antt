@@ -14,12 +14,12 @@ use Rattle.bx_journal.specs.declared.head.Wanted.{Wanted}
 use Rattle.bx_journal.specs.declared.head.JournalDay.TheVariants.{Rehearsed}
 use Rattle.bx_journal.specs.declared.version.Version.{Version}
 use Rattle.bx_journal.specs.declared.version.Version.TheVariants.{Undated, Older, Dated}
-use Rattle.bx_journal.specs.Versions.{has_day, head_lines, IsReadWhere}
+use Rattle.bx_journal.specs.Versions.{has_day, head_size, IsReadWhere}
 use Rattle.bx_journal.specs.Heads.{IsJournalDay, IsWanted, IsWantedDay}
 use Rattle.bx_journal.specs.Held.{Held}
 use Rattle.bx_journal.specs.Lines.{line_ended}
 use Rattle.bx_journal.specs.Inside.{HasNoLf, HaveNoLf}
-use Rattle.bx_journal.specs.Text.{first_line, plan_line, day_line, day_lines}
+use Rattle.bx_journal.specs.Text.{version_line, plan_line, day_line, day_lines}
 use Rattle.bx_journal.specs.Reading.{version_on, plan_on, plan_fault, day_on, fits_day, after_day, dated_head, after_plan, after_version, head_on}
 use Rattle.bx_journal.specs.Taking.{Takes, TakesLine, TakesLines, TakesTorn, IsJudged, IsNoneTaken, IsHeadLine, HeadTaken, HeadRefused, IsHead}
 use Rattle.bx_journal.proofs.DayLines.{first_read, day_read, day_fits, IsFirstLine, ok_version, version_spelled, third_spelled, IsLineFault, version_fault, plan_on_fault, day_fault}
@@ -153,22 +153,22 @@ module _ (wanted : Wanted) (head : Head) (is : IsWanted wanted head) (day : IsJo
   fits : fits_day wanted.day (day_on (day_line head.day)) ≡ Ok tt
   fits = ap (fits_day wanted.day) (day_read head.day day) ∙ day_fits wanted.day head.day is.day
 
-  pub one_line : head_on wanted (first_line v ∷ []) ≡ Err NotBegun
+  pub one_line : head_on wanted (version_line v ∷ []) ≡ Err NotBegun
   one_line = ap (λ (r : Result Version JournalFault). after_version wanted r []) (first_read v wanted.day read)
 
-  two_read : (lines : List (List ℕ)) → head_on wanted (first_line v ∷ plan_line head.plan ∷ lines) ≡ after_plan wanted.day (Ok tt) v lines
+  two_read : (lines : List (List ℕ)) → head_on wanted (version_line v ∷ plan_line head.plan ∷ lines) ≡ after_plan wanted.day (Ok tt) v lines
   two_read lines =
       ap (λ (r : Result Version JournalFault). after_version wanted r (plan_line head.plan ∷ lines)) (first_read v wanted.day read)
       ∙ ap (λ (r : Result (Unit {0}) JournalFault). after_plan wanted.day r v lines) (plan_read wanted.plan head.plan is.plan)
 
-  pub two_lines : has_day v ≡ true → head_on wanted (first_line v ∷ plan_line head.plan ∷ []) ≡ Err NotBegun
+  pub two_lines : has_day v ≡ true → head_on wanted (version_line v ∷ plan_line head.plan ∷ []) ≡ Err NotBegun
   two_lines told = two_read [] ∙ ap (λ (b : Bool). cond b (Err NotBegun) (Ok v)) told
 
   day_there : (t : Bool) (rest : List (List ℕ)) → cond t (dated_head v wanted.day (cond t (day_line head.day ∷ []) [] ++ rest)) (Ok v) ≡ Ok v
   day_there true rest = ap (after_day v) fits
   day_there false rest = refl
 
-  pub head_read : (rest : List (List ℕ)) → head_on wanted (first_line v ∷ plan_line head.plan ∷ (day_lines v head.day ++ rest)) ≡ Ok v
+  pub head_read : (rest : List (List ℕ)) → head_on wanted (version_line v ∷ plan_line head.plan ∷ (day_lines v head.day ++ rest)) ≡ Ok v
   head_read rest = two_read (day_lines v head.day ++ rest) ∙ day_there (has_day v) rest
 
 -- ---- a head that was read
@@ -179,7 +179,7 @@ pub record IsHeadOf (wanted : Wanted) (lines : List (List ℕ)) (v : Version) : 
   pub is_wanted : IsWanted wanted head
   pub day : IsJournalDay head.day
   pub rest : List (List ℕ)
-  pub are : lines ≡ first_line v ∷ plan_line head.plan ∷ (day_lines v head.day ++ rest)
+  pub are : lines ≡ version_line v ∷ plan_line head.plan ∷ (day_lines v head.day ++ rest)
 
 version_inj : (v w : Version) → ok_version v ≡ ok_version w → v ≡ w
 version_inj v w e = cc
@@ -213,9 +213,9 @@ module _ (wanted : Wanted) (v : Version) where
         day = third.is;
         rest = rest;
         are = ap (λ (l : List ℕ). l ∷ l2 ∷ l3 ∷ rest) first.is
-            ∙ ap (λ (l : List ℕ). first_line w ∷ l ∷ l3 ∷ rest) second
-            ∙ ap (λ (l : List ℕ). first_line w ∷ plan_line wanted.plan ∷ l ∷ rest) third.spelled
-            ∙ ap (λ (b : Bool). first_line w ∷ plan_line wanted.plan ∷ (cond b (day_line third.day ∷ []) [] ++ rest)) (sym told);
+            ∙ ap (λ (l : List ℕ). version_line w ∷ l ∷ l3 ∷ rest) second
+            ∙ ap (λ (l : List ℕ). version_line w ∷ plan_line wanted.plan ∷ l ∷ rest) third.spelled
+            ∙ ap (λ (b : Bool). version_line w ∷ plan_line wanted.plan ∷ (cond b (day_line third.day ∷ []) [] ++ rest)) (sym told);
       })
 
   by_two : (t : Bool) (w : Version) (l1 l2 : List ℕ) (lines : List (List ℕ)) → has_day w ≡ t → IsFirstLine wanted.day l1 w → l2 ≡ plan_line wanted.plan → cond t (dated_head w wanted.day lines) (Ok w) ≡ Ok v → IsHeadOf wanted (l1 ∷ l2 ∷ lines) v
@@ -226,8 +226,8 @@ module _ (wanted : Wanted) (v : Version) where
     day = tt;
     rest = lines;
     are = ap (λ (l : List ℕ). l ∷ l2 ∷ lines) first.is
-        ∙ ap (λ (l : List ℕ). first_line w ∷ l ∷ lines) second
-        ∙ ap (λ (b : Bool). first_line w ∷ plan_line wanted.plan ∷ (cond b (day_line Rehearsed ∷ []) [] ++ lines)) (sym none);
+        ∙ ap (λ (l : List ℕ). version_line w ∷ l ∷ lines) second
+        ∙ ap (λ (b : Bool). version_line w ∷ plan_line wanted.plan ∷ (cond b (day_line Rehearsed ∷ []) [] ++ lines)) (sym none);
   })
   by_two true w l1 l2 [] told first second e = absurd cc
   by_two true w l1 l2 (l3 ∷ rest) told first second e = by_day w l1 l2 l3 rest (fits_day wanted.day (day_on l3)) told first second refl e
@@ -246,23 +246,23 @@ module _ (wanted : Wanted) (v : Version) where
   head_spelled (l1 ∷ lines) e = by_first l1 lines (version_on wanted.day l1) refl e
 
 -- it has more octets than lines
-few_lines : (v : Version) → head_lines v ≤ 3
+few_lines : (v : Version) → head_size v ≤ 3
 few_lines Undated = omega arith
 few_lines Older = omega arith
 few_lines Dated = omega arith
 
-first_long : (v : Version) → 3 ≤ length (first_line v)
+first_long : (v : Version) → 3 ≤ length (version_line v)
 first_long Undated = omega arith
 first_long Older = omega (arith, length-append (codes "bx-journal 2 rules ") (decimal OLDER_RULES))
 first_long Dated = omega (arith, length-append (codes "bx-journal 2 rules ") (decimal RULES))
 
-count_by : (wanted : Wanted) (lines : List (List ℕ)) (v : Version) → IsHeadOf wanted lines v → head_lines v < length (flat_map line_ended lines)
+count_by : (wanted : Wanted) (lines : List (List ℕ)) (v : Version) → IsHeadOf wanted lines v → head_size v < length (flat_map line_ended lines)
 count_by wanted lines v d =
     let following = flat_map line_ended (plan_line d.head.plan ∷ (day_lines v d.head.day ++ d.rest)) in
-    let long : length (flat_map line_ended lines) ≡ length (line_ended (first_line v) ++ following) = ap (λ (ls : List (List ℕ)). length (flat_map line_ended ls)) d.are in
-    omega (arith, few_lines v, first_long v, long, length-append (line_ended (first_line v)) following, length-append (first_line v) (10 ∷ []))
+    let long : length (flat_map line_ended lines) ≡ length (line_ended (version_line v) ++ following) = ap (λ (ls : List (List ℕ)). length (flat_map line_ended ls)) d.are in
+    omega (arith, few_lines v, first_long v, long, length-append (line_ended (version_line v)) following, length-append (version_line v) (10 ∷ []))
 
-pub past_head : (wanted : Wanted) (before after : Option (List ℕ)) (old new : Held) (v : Version) → HeadTaken wanted before after old new v → head_lines v < new.taken
+pub past_head : (wanted : Wanted) (before after : Option (List ℕ)) (old new : Held) (v : Version) → HeadTaken wanted before after old new v → head_size v < new.taken
 past_head wanted before after old new v head =
     let past = count_by wanted head.lines v (head_spelled wanted v head.lines (ap (head_on wanted) (sym (append-nil head.lines)) ∙ head.is [])) in
     omega (arith, past, head.taken.takes.count)

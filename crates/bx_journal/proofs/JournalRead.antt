@@ -9,7 +9,7 @@ use Rattle.bx_journal.specs.declared.fault.JournalFault.{JournalFault}
 use Rattle.bx_journal.specs.declared.fault.JournalFault.TheVariants.{BadLine, OtherPlan, OtherDay, OtherRules, NotBegun, ReadFailed}
 use Rattle.bx_journal.specs.declared.head.Wanted.{Wanted}
 use Rattle.bx_journal.specs.declared.version.Version.{Version}
-use Rattle.bx_journal.specs.Versions.{head_lines}
+use Rattle.bx_journal.specs.Versions.{head_size}
 use Rattle.bx_journal.specs.Events.{AreEventsIn}
 use Rattle.bx_journal.specs.Held.{Held}
 use Rattle.bx_journal.specs.Inside.{HasNoLf, HaveNoLf}
@@ -53,17 +53,17 @@ module _ (wanted : Wanted) (lines : List (List ℕ)) (none : HaveNoLf lines) whe
   pub none_before : (fault : JournalFault) → ((rest : List (List ℕ)) → head_on wanted (lines ++ rest) ≡ Err fault) → (more : List ℕ) → events_before wanted (flat_map line_ended lines ++ more) ≡ []
   none_before fault is more = before_of (Err fault) more (is (whole_lines more))
 
-  module _ (v : Version) (count : length lines ≡ head_lines v) (is : (rest : List (List ℕ)) → head_on wanted (lines ++ rest) ≡ Ok v) where
-    following_head : (more : List ℕ) → recovered wanted (flat_map line_ended lines ++ more) ≡ events_on v (head_lines v + 1) (whole_lines more)
-    following_head more = said_of (Ok v) more (is (whole_lines more)) ∙ ap (events_on v (head_lines v + 1)) (drop_at lines (whole_lines more) (head_lines v) count)
+  module _ (v : Version) (count : length lines ≡ head_size v) (is : (rest : List (List ℕ)) → head_on wanted (lines ++ rest) ≡ Ok v) where
+    following_head : (more : List ℕ) → recovered wanted (flat_map line_ended lines ++ more) ≡ events_on v (head_size v + 1) (whole_lines more)
+    following_head more = said_of (Ok v) more (is (whole_lines more)) ∙ ap (events_on v (head_size v + 1)) (drop_at lines (whole_lines more) (head_size v) count)
 
     events_of : (more : List ℕ) → events_before wanted (flat_map line_ended lines ++ more) ≡ events_to_fault v (whole_lines more)
-    events_of more = before_of (Ok v) more (is (whole_lines more)) ∙ ap (events_to_fault v) (drop_at lines (whole_lines more) (head_lines v) count)
+    events_of more = before_of (Ok v) more (is (whole_lines more)) ∙ ap (events_to_fault v) (drop_at lines (whole_lines more) (head_size v) count)
 
     module _ (events : List LiveEvent) (are : AreEventsIn v events) where
       pub events_taken : (torn : List ℕ) → HasNoLf torn → recovered wanted (flat_map line_ended lines ++ (lines_text events ++ torn)) ≡ Ok events
       events_taken torn clean =
-          following_head (lines_text events ++ torn) ∙ ap (events_on v (head_lines v + 1)) (lines_whole (map line_of events) torn (event_lines v events are) (torn_line torn clean)) ∙ events_read v (head_lines v + 1) events are
+          following_head (lines_text events ++ torn) ∙ ap (events_on v (head_size v + 1)) (lines_whole (map line_of events) torn (event_lines v events are) (torn_line torn clean)) ∙ events_read v (head_size v + 1) events are
 
       pub journal_taken : (torn : List ℕ) → HasNoLf torn → journal_in wanted (flat_map line_ended lines ++ (lines_text events ++ torn)) ≡ Ok (record { events = events; whole = length (flat_map line_ended lines ++ lines_text events) })
       journal_taken torn clean =
@@ -81,9 +81,9 @@ module _ (wanted : Wanted) (lines : List (List ℕ)) (none : HaveNoLf lines) whe
         broken_lines : whole_lines (lines_text events ++ (line_ended line ++ more)) ≡ map line_of events ++ line ∷ whole_lines more
         broken_lines = lines_then (map line_of events) (line_ended line ++ more) (event_lines v events are) ∙ ap (λ (ls : List (List ℕ)). map line_of events ++ ls) (line_first line more clean)
 
-        pub broken : recovered wanted ((flat_map line_ended lines ++ (lines_text events ++ line_ended line)) ++ more) ≡ Err (BadLine (head_lines v + 1 + length events))
+        pub broken : recovered wanted ((flat_map line_ended lines ++ (lines_text events ++ line_ended line)) ++ more) ≡ Err (BadLine (head_size v + 1 + length events))
         broken =
-            ap (recovered wanted) regroup ∙ following_head (lines_text events ++ (line_ended line ++ more)) ∙ ap (events_on v (head_lines v + 1)) broken_lines ∙ break_after v (head_lines v + 1) events line (whole_lines more) are bad
+            ap (recovered wanted) regroup ∙ following_head (lines_text events ++ (line_ended line ++ more)) ∙ ap (events_on v (head_size v + 1)) broken_lines ∙ break_after v (head_size v + 1) events line (whole_lines more) are bad
 
         pub before_break : events_before wanted ((flat_map line_ended lines ++ (lines_text events ++ line_ended line)) ++ more) ≡ events
         before_break = ap (events_before wanted) regroup ∙ events_of (lines_text events ++ (line_ended line ++ more)) ∙ ap (events_to_fault v) broken_lines ∙ events_then_break v events line (whole_lines more) are bad
@@ -145,7 +145,7 @@ module _ {F : Type 0} (followed : F → List LiveEvent → F → Type 0) (f g : 
     following : (xs : List ℕ) → Takes middle after mid new xs → Takes before after old new (flat_map line_ended head.lines ++ xs)
     following xs t = takes_then before middle after old mid new (flat_map line_ended head.lines) xs head.taken.takes t
 
-    pub events_done : (faulted : Bool) (r : Result ℕ JournalFault) → AreEventLines followed f g v (head_lines v + 1) faulted middle after mid new r → IsFollowed followed faulted before after wanted f g r
+    pub events_done : (faulted : Bool) (r : Result ℕ JournalFault) → AreEventLines followed f g v (head_size v + 1) faulted middle after mid new r → IsFollowed followed faulted before after wanted f g r
     events_done faulted (Ok whole) o =
         let count : length (flat_map line_ended head.lines ++ lines_text o.events) ≡ whole = omega (arith, o.whole_is, head.taken.takes.count, zero, length-append (flat_map line_ended head.lines) (lines_text o.events)) in
         was_read (flat_map line_ended head.lines ++ (lines_text o.events ++ o.torn)) (following (lines_text o.events ++ o.torn) o.takes) o.events whole o.over

@@ -7,9 +7,10 @@ use Rattle.bx_events.specs.Events.{LiveEvent}
 use Rattle.bx_journal.specs.Disk.{IsTorn}
 use Rattle.bx_journal.specs.declared.version.Version.{Version}
 use Rattle.bx_journal.specs.declared.version.Version.TheVariants.{Dated}
-use Rattle.bx_journal.specs.Events.{IsEvent, IsEventIn, AreEvents, AreEventsIn}
+use Rattle.bx_journal.specs.Inside.{IsEvent, lines_of}
+use Rattle.bx_journal.specs.Events.{IsEventIn, AreEvents, AreEventsIn}
 use Rattle.bx_journal.specs.Lines.{line_ended}
-use Rattle.bx_journal.specs.Text.{line_of, rules_line, plan_line, day_line, lines_of, journal_text}
+use Rattle.bx_journal.specs.Text.{line_of, rules_line, plan_line, day_line, journal_text}
 use Rattle.bx_journal.specs.Heads.{IsJournalDay, wanted_of}
 use Rattle.bx_journal.specs.declared.head.Head.{Head}
 use Rattle.bx_journal.specs.declared.head.TheConstants.{RULES}

@@ -14,9 +14,9 @@ use Rattle.bx_journal.specs.declared.head.TheConstants.{RULES, OLDER_RULES}
 use Rattle.bx_journal.specs.declared.version.Version.{Version}
 use Rattle.bx_journal.specs.declared.version.Version.TheVariants.{Dated}
 use Rattle.bx_journal.specs.Versions.{is_older}
-use Rattle.bx_journal.specs.Inside.{HasNoLf}
+use Rattle.bx_journal.specs.Inside.{HasNoLf, lines_of}
 use Rattle.bx_journal.specs.Lines.{whole_lines, line_ended}
-use Rattle.bx_journal.specs.Text.{line_of, rules_line, first_line, lines_of, journal_text}
+use Rattle.bx_journal.specs.Text.{line_of, rules_line, version_line, journal_text}
 use Rattle.bx_journal.specs.Reading.{Recovery, day_on, version_on, after_version, events_on, events_after, recovered, journal_events, journal_in}
 use Rattle.bx_journal.proofs.Digits.{octets_read}
 use Rattle.bx_journal.proofs.DayLines.{rules_without_lf, first_without_lf, first_refused, rules_refused, day_read}
@@ -67,8 +67,8 @@ refused wanted line following none is =
     ap (journal_events wanted) (line_first line following none)
     ∙ ap (λ (r : Result Version JournalFault). events_after (after_version wanted r (whole_lines following)) (line ∷ whole_lines following)) is
 
-pub older_none : (wanted : Wanted) (day : JournalDay) (v : Version) (following : List ℕ) → wanted.day ≡ Some day → is_older v ≡ true → recovered wanted (line_ended (first_line v) ++ following) ≡ Err OtherRules
-older_none wanted day v following some older = refused wanted (first_line v) following (first_without_lf v) (first_refused v wanted.day day some older)
+pub older_none : (wanted : Wanted) (day : JournalDay) (v : Version) (following : List ℕ) → wanted.day ≡ Some day → is_older v ≡ true → recovered wanted (line_ended (version_line v) ++ following) ≡ Err OtherRules
+older_none wanted day v following some older = refused wanted (version_line v) following (first_without_lf v) (first_refused v wanted.day day some older)
 
 pub known_rules : (wanted : Wanted) (rules : ℕ) (following : List ℕ) → rules < 4294967296 → (rules ≡ RULES → ⊥) → (rules ≡ OLDER_RULES → ⊥) → recovered wanted (line_ended (rules_line rules) ++ following) ≡ Err OtherRules
 known_rules wanted rules following small other older = refused wanted (rules_line rules) following (rules_without_lf rules small) (rules_refused wanted.day rules small other older)

@@ -9,7 +9,8 @@ use Rattle.bx_journal.specs.Disk.{LeavesOnly}
 use Rattle.bx_events.specs.Told.{live_event_of}
 use Rattle.bx_journal.specs.Lines.{whole_lines}
 use Rattle.bx_journal.specs.Heads.{IsJournalDay, wanted_of}
-use Rattle.bx_journal.specs.Text.{lines_of, journal_text}
+use Rattle.bx_journal.specs.Inside.{lines_of}
+use Rattle.bx_journal.specs.Text.{journal_text}
 use Rattle.bx_journal.specs.declared.fault.JournalFault.{JournalFault}
 use Rattle.bx_journal.specs.declared.head.Head.{Head}
 use Rattle.bx_journal.specs.declared.version.Version.{Version}

@@ -4,13 +4,13 @@ use Rattle.std.specs.List.{flat_map, list_all}
 use Rattle.bx_events.specs.Events.{Tick, Receive, LiveEvent, OnLink, WithoutLink, Sold, HeardByRulesTwo}
 use Rattle.bx_journal.specs.declared.version.Version.{Version}
 use Rattle.bx_journal.specs.declared.version.Version.TheVariants.{Dated}
-use Rattle.bx_journal.specs.Versions.{has_day, head_lines, IsReadWhere}
+use Rattle.bx_journal.specs.Versions.{has_day, head_size, IsReadWhere}
 use Rattle.bx_journal.specs.Events.{is_printable, IsEventIn, AreEvents, AreEventsIn}
 use Rattle.bx_journal.specs.Lines.{whole_lines, whole_text, line_ended}
 use Rattle.bx_journal.specs.Inside.{HasNoLf, HaveNoLf}
 use Rattle.bx_journal.specs.Heads.{IsJournalDay, IsWanted, wanted_of}
 use Rattle.bx_journal.specs.declared.head.JournalDay.{JournalDay}
-use Rattle.bx_journal.specs.Text.{line_of, first_line, plan_line, day_line, lines_in, journal_text}
+use Rattle.bx_journal.specs.Text.{line_of, version_line, plan_line, day_line, lines_in, journal_text}
 use Rattle.bx_journal.specs.Reading.{event_on, events_on, events_after, journal_events, recovered, journal_in, with_whole, IsJournalText}
 use Rattle.bx_journal.specs.declared.fault.JournalFault.{JournalFault}
 use Rattle.bx_journal.specs.declared.head.Head.{Head}
@@ -82,8 +82,8 @@ after_head false first plan day lines = refl
 pub lines_read : (v : Version) (wanted : Wanted) (head : Head) (es : List LiveEvent) → IsReadWhere v wanted.day → IsWanted wanted head → IsJournalDay head.day → AreEventsIn v es → journal_events wanted (lines_in v head es) ≡ Ok es
 lines_read v wanted head es read is day are =
     ap (λ (r : Result Version JournalFault). events_after r (lines_in v head es)) (head_read wanted head is day v read (map line_of es))
-    ∙ ap (events_on v (head_lines v + 1)) (after_head (has_day v) (first_line v) (plan_line head.plan) (day_line head.day) (map line_of es))
-    ∙ events_read v (head_lines v + 1) es are
+    ∙ ap (events_on v (head_size v + 1)) (after_head (has_day v) (version_line v) (plan_line head.plan) (day_line head.day) (map line_of es))
+    ∙ events_read v (head_size v + 1) es are
 
 -- its own head is wanted
 pub own : (head : Head) → IsWanted (wanted_of head) head

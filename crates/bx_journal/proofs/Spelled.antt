@@ -10,12 +10,12 @@ use Rattle.bx_events.specs.Events.{Tick, Receive, LiveEvent, OnLink, WithoutLink
 use Rattle.bx_journal.specs.declared.fault.JournalFault.{JournalFault}
 use Rattle.bx_journal.specs.declared.version.Version.{Version}
 use Rattle.bx_journal.specs.declared.version.Version.TheVariants.{Undated, Older, Dated}
-use Rattle.bx_journal.specs.Versions.{has_day, head_lines, is_older, IsReadWhere}
+use Rattle.bx_journal.specs.Versions.{has_day, head_size, is_older, IsReadWhere}
 use Rattle.bx_journal.specs.Events.{AreOctets, IsEventIn, AreEvents, AreEventsIn, is_printable}
 use Rattle.bx_journal.specs.Hex.{hex_digit, hex_of, hex_value, octet_of_digits, octets_of_digits, after_octet}
 use Rattle.bx_journal.specs.Lines.{whole_lines, whole_text, line_ended, onto}
-use Rattle.bx_journal.specs.Inside.{HasNoLf, HaveNoLf}
-use Rattle.bx_journal.specs.Text.{line_of, first_line, plan_line, day_line, day_lines, lines_in, lines_of, journal_text}
+use Rattle.bx_journal.specs.Inside.{HasNoLf, HaveNoLf, lines_of}
+use Rattle.bx_journal.specs.Text.{line_of, version_line, plan_line, day_line, day_lines, lines_in, journal_text}
 use Rattle.bx_journal.specs.Reading.{event_on, heard_on, heard_event, sold_on, events_on, with_event, head_on, events_after, journal_events, recovered, Recovery, journal_in, with_whole, IsJournalText}
 use Rattle.bx_journal.specs.Heads.{IsJournalDay, IsWanted, wanted_of}
 use Rattle.bx_journal.specs.declared.head.Head.{Head}
@@ -174,10 +174,10 @@ pub record AreLines (wanted : Wanted) (lines : List (List ℕ)) (es : List LiveE
   pub events : AreEventsIn version es
   pub are : lines ≡ lines_in version head es
 
-following_head : (wanted : Wanted) (lines : List (List ℕ)) (es : List LiveEvent) (v : Version) → IsHeadOf wanted lines v → events_on v (head_lines v + 1) (drop (head_lines v) lines) ≡ Ok es → AreLines wanted lines es
+following_head : (wanted : Wanted) (lines : List (List ℕ)) (es : List LiveEvent) (v : Version) → IsHeadOf wanted lines v → events_on v (head_size v + 1) (drop (head_size v) lines) ≡ Ok es → AreLines wanted lines es
 following_head wanted lines es v d e =
-    let past : drop (head_lines v) lines ≡ d.rest = ap (drop (head_lines v)) d.are ∙ after_head (has_day v) (first_line v) (plan_line d.head.plan) (day_line d.head.day) d.rest in
-    let rest = lines_spelled v (head_lines v + 1) d.rest es (ap (events_on v (head_lines v + 1)) (sym past) ∙ e) in
+    let past : drop (head_size v) lines ≡ d.rest = ap (drop (head_size v)) d.are ∙ after_head (has_day v) (version_line v) (plan_line d.head.plan) (day_line d.head.day) d.rest in
+    let rest = lines_spelled v (head_size v + 1) d.rest es (ap (events_on v (head_size v + 1)) (sym past) ∙ e) in
     record {
       version = v;
       is_read = d.is_read;
@@ -185,7 +185,7 @@ following_head wanted lines es v d e =
       is_wanted = d.is_wanted;
       day = d.day;
       events = rest.octets;
-      are = d.are ∙ ap (λ (ls : List (List ℕ)). first_line v ∷ plan_line d.head.plan ∷ (day_lines v d.head.day ++ ls)) rest.spelled;
+      are = d.are ∙ ap (λ (ls : List (List ℕ)). version_line v ∷ plan_line d.head.plan ∷ (day_lines v d.head.day ++ ls)) rest.spelled;
     }
 
 by_head : (wanted : Wanted) (lines : List (List ℕ)) (es : List LiveEvent) (r : Result Version JournalFault) → head_on wanted lines ≡ r → events_after r lines ≡ Ok es → AreLines wanted lines es

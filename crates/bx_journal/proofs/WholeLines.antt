@@ -6,9 +6,9 @@ use Rattle.std.specs.List.{flat_map}
 use Rattle.bx_journal.specs.Lines.{whole_lines, line_ended, onto}
 use Rattle.bx_journal.specs.Inside.{HasNoLf, HaveNoLf}
 
-pub first_line : (line rest : List ℕ) → HasNoLf line → whole_lines (line ++ 10 ∷ rest) ≡ line ∷ whole_lines rest
-first_line [] rest none = refl
-first_line (b ∷ line) rest none = rw (none.0) (ap (onto b) (first_line line rest none.1))
+pub version_line : (line rest : List ℕ) → HasNoLf line → whole_lines (line ++ 10 ∷ rest) ≡ line ∷ whole_lines rest
+version_line [] rest none = refl
+version_line (b ∷ line) rest none = rw (none.0) (ap (onto b) (version_line line rest none.1))
 
 pub torn_line : (torn : List ℕ) → HasNoLf torn → whole_lines torn ≡ []
 torn_line [] none = refl
@@ -25,11 +25,11 @@ regroup line more torn = append_assoc (line_ended line) more torn ∙ append_ass
 pub lines_whole : (lines : List (List ℕ)) (torn : List ℕ) → HaveNoLf lines → whole_lines torn ≡ [] → whole_lines (flat_map line_ended lines ++ torn) ≡ lines
 lines_whole [] torn none t = t
 lines_whole (line ∷ lines) torn none t =
-    ap whole_lines (regroup line (flat_map line_ended lines) torn) ∙ first_line line (flat_map line_ended lines ++ torn) none.0 ∙ ap (λ (ls : List (List ℕ)). line ∷ ls) (lines_whole lines torn none.1 t)
+    ap whole_lines (regroup line (flat_map line_ended lines) torn) ∙ version_line line (flat_map line_ended lines ++ torn) none.0 ∙ ap (λ (ls : List (List ℕ)). line ∷ ls) (lines_whole lines torn none.1 t)
 
 -- a line with its LF, before other octets
 pub line_first : (line more : List ℕ) → HasNoLf line → whole_lines (line_ended line ++ more) ≡ line ∷ whole_lines more
-line_first line more none = ap whole_lines (append_assoc line (10 ∷ []) more) ∙ first_line line more none
+line_first line more none = ap whole_lines (append_assoc line (10 ∷ []) more) ∙ version_line line more none
 
 pub lines_then : (lines : List (List ℕ)) (rest : List ℕ) → HaveNoLf lines → whole_lines (flat_map line_ended lines ++ rest) ≡ lines ++ whole_lines rest
 lines_then [] rest none = refl

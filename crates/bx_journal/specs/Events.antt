@@ -37,25 +37,22 @@ HasOctets (Sold booking) = Unit {0}
 HasOctets (HeardByRulesTwo octets) = AreOctets octets
 
 -- what a journal of this version may have: what came to an exchange of the older rules is in one by these, and in no other
-abbrev pub IsKept : Version → LiveEvent → Type 0
-IsKept version (OnLink Tick) = Unit {0}
-IsKept version (OnLink (Receive octets)) = (is_older version ≡ false) × (length octets ≤ MAX_MESSAGE)
-IsKept version WithoutLink = Unit {0}
-IsKept version (Sold booking) = (length booking ≤ 120) × (list_all is_printable booking ≡ true)
-IsKept version (HeardByRulesTwo octets) = (is_older version ≡ true) × (length octets ≤ MAX_MESSAGE)
+abbrev pub FitsVersion : Version → LiveEvent → Type 0
+FitsVersion version (OnLink Tick) = Unit {0}
+FitsVersion version (OnLink (Receive octets)) = (is_older version ≡ false) × (length octets ≤ MAX_MESSAGE)
+FitsVersion version WithoutLink = Unit {0}
+FitsVersion version (Sold booking) = (length booking ≤ 120) × (list_all is_printable booking ≡ true)
+FitsVersion version (HeardByRulesTwo octets) = (is_older version ≡ true) × (length octets ≤ MAX_MESSAGE)
 
 -- an event that has a line in a journal of this version: what came are octets, and no more than a message has
 abbrev pub IsEventIn : Version → LiveEvent → Type 0
-IsEventIn version event = HasOctets event × IsKept version event
+IsEventIn version event = HasOctets event × FitsVersion version event
 
 abbrev pub AreEventsIn : Version → List LiveEvent → Type 0
 AreEventsIn version [] = Unit {0}
 AreEventsIn version (event ∷ events) = IsEventIn version event × AreEventsIn version events
 
 -- the same of the journals that are written
-abbrev pub IsEvent : LiveEvent → Type 0
-IsEvent event = IsEventIn Dated event
-
 abbrev pub AreEvents : List LiveEvent → Type 0
 AreEvents events = AreEventsIn Dated events
 

@@ -10,7 +10,7 @@ use Rattle.bx_journal.specs.declared.version.Version.{Version}
 use Rattle.bx_journal.specs.Events.{AreEvents, AreOctets}
 use Rattle.bx_journal.specs.Heads.{IsJournalDay, IsWanted, wanted_of}
 use Rattle.bx_journal.specs.Lines.{whole_lines, line_ended}
-use Rattle.bx_journal.specs.Text.{rules_line, first_line, journal_text}
+use Rattle.bx_journal.specs.Text.{rules_line, version_line, journal_text}
 use Rattle.bx_journal.specs.Versions.{is_older}
 use Rattle.bx_journal.specs.Reading.{Recovery, IsJournalText, recovered, journal_in}
 
@@ -70,7 +70,7 @@ IsOlderOfNoDay =
     (wanted : Wanted) (day : JournalDay) (version : Version) (following : List ℕ) →
     wanted.day ≡ Some day →
     is_older version ≡ true →
-    recovered wanted (line_ended (first_line version) ++ following) ≡ Err OtherRules
+    recovered wanted (line_ended (version_line version) ++ following) ≡ Err OtherRules
 
 -- one by any other rules is refused by all, whatever stands after its first line
 abbrev pub IsReadByKnownRules : Type 0

@@ -13,7 +13,7 @@ use Rattle.bx_journal.specs.declared.head.TheConstants.{RULES, OLDER_RULES}
 use Rattle.bx_journal.specs.declared.head.Wanted.{Wanted}
 use Rattle.bx_journal.specs.declared.version.Version.{Version}
 use Rattle.bx_journal.specs.declared.version.Version.TheVariants.{Undated, Older, Dated}
-use Rattle.bx_journal.specs.Versions.{has_day, head_lines, is_older, IsReadWhere}
+use Rattle.bx_journal.specs.Versions.{has_day, head_size, is_older, IsReadWhere}
 use Rattle.bx_journal.specs.Events.{is_printable, AreEventsIn}
 use Rattle.bx_journal.specs.Heads.{IsJournalDay, IsWanted}
 use Rattle.bx_journal.specs.Hex.{octets_of_digits, is_hex}
@@ -141,7 +141,7 @@ head_on wanted (line ∷ lines) = after_version wanted (version_on wanted.day li
 -- ---- the whole
 
 abbrev pub events_after : Result Version JournalFault → List (List ℕ) → Result (List LiveEvent) JournalFault
-events_after (Ok version) lines = events_on version (head_lines version + 1) (drop (head_lines version) lines)
+events_after (Ok version) lines = events_on version (head_size version + 1) (drop (head_size version) lines)
 events_after (Err fault) lines = Err fault
 
 abbrev pub journal_events : Wanted → List (List ℕ) → Result (List LiveEvent) JournalFault
@@ -173,7 +173,7 @@ events_to_fault version [] = []
 events_to_fault version (line ∷ lines) = then_events (event_on version line) (events_to_fault version lines)
 
 abbrev pub events_after_head : Result Version JournalFault → List (List ℕ) → List LiveEvent
-events_after_head (Ok version) lines = events_to_fault version (drop (head_lines version) lines)
+events_after_head (Ok version) lines = events_to_fault version (drop (head_size version) lines)
 events_after_head (Err fault) lines = []
 
 -- the events of the whole lines before the first fault, or of all of them

@@ -11,7 +11,7 @@ use Rattle.bx_journal.specs.declared.line_reading.LineEnd.{LineEnd}
 use Rattle.bx_journal.specs.declared.line_reading.LineEnd.TheVariants.{Whole, TooLong, Torn}
 use Rattle.bx_journal.specs.Held.{Held}
 use Rattle.bx_journal.specs.declared.version.Version.{Version}
-use Rattle.bx_journal.specs.Versions.{head_lines}
+use Rattle.bx_journal.specs.Versions.{head_size}
 use Rattle.bx_journal.specs.Events.{AreEventsIn}
 use Rattle.bx_journal.specs.Lines.{line_ended}
 use Rattle.bx_journal.specs.Inside.{HasNoLf, HaveNoLf}
@@ -106,7 +106,7 @@ pub record TakesTorn (before after : Option (List ℕ)) (old new : Held) (lines 
 pub record HeadTaken (wanted : Wanted) (before after : Option (List ℕ)) (old new : Held) (version : Version) : Type 0 where
   pub lines : List (List ℕ)
   pub taken : TakesLines before after old new lines
-  pub count : length lines ≡ head_lines version
+  pub count : length lines ≡ head_size version
   pub is : (rest : List (List ℕ)) → head_on wanted (lines ++ rest) ≡ Ok version
 
 -- it has a fault

@@ -34,10 +34,10 @@ day_line Rehearsed = codes "day rehearsed"
 day_line (Live first pace) = codes "day live " ++ decimal first ++ codes " " ++ decimal pace
 
 -- the first line of a journal of this version
-abbrev pub first_line : Version → List ℕ
-first_line Undated = codes "bx-journal 1"
-first_line Older = rules_line OLDER_RULES
-first_line Dated = rules_line RULES
+abbrev pub version_line : Version → List ℕ
+version_line Undated = codes "bx-journal 1"
+version_line Older = rules_line OLDER_RULES
+version_line Dated = rules_line RULES
 
 -- what stands before its events of the day: version 1 told none
 abbrev pub day_lines : Version → JournalDay → List (List ℕ)
@@ -45,14 +45,11 @@ day_lines version day = if has_day version then day_line day ∷ [] else []
 
 -- its lines
 abbrev pub lines_in : Version → Head → List LiveEvent → List (List ℕ)
-lines_in version head events = first_line version ∷ plan_line head.plan ∷ (day_lines version head.day ++ map line_of events)
+lines_in version head events = version_line version ∷ plan_line head.plan ∷ (day_lines version head.day ++ map line_of events)
 
 abbrev pub text_in : Version → Head → List LiveEvent → List ℕ
 text_in version head events = flat_map line_ended (lines_in version head events)
 
 -- the same of the journals that are written
-abbrev pub lines_of : Head → List LiveEvent → List (List ℕ)
-lines_of head events = lines_in Dated head events
-
 abbrev pub journal_text : Head → List LiveEvent → List ℕ
 journal_text head events = text_in Dated head events

@@ -16,8 +16,8 @@ is_older Undated = true
 is_older Older = true
 is_older Dated = false
 
-abbrev pub head_lines : Version → ℕ
-head_lines version = if has_day version then 3 else 2
+abbrev pub head_size : Version → ℕ
+head_size version = if has_day version then 3 else 2
 
 -- a journal of it is read: one by the older rules where no day is wanted
 abbrev pub IsReadWhere : Version → Option JournalDay → Type 0

@@ -6,7 +6,7 @@ ghost use Rattle.bx_devices.specs.Watching.{is_faulted};
 ghost use Rattle.bx_journal.specs.Hex.{is_hex};
 ghost use Rattle.bx_journal.specs.Numbers.{number_on};
 ghost use Rattle.bx_journal.specs.Reading.{day_on, dated_by, dated_on, fits_day, is_day, is_plan_line, live_by, live_on, older_version, plan_fault, plan_on, version_on};
-ghost use Rattle.bx_journal.specs.Versions.{head_lines};
+ghost use Rattle.bx_journal.specs.Versions.{head_size};
 ghost use Rattle.bx_journal.specs.Taking.{IsHeadLineFrom, IsHeadFrom};
 
 use crate::fault::JournalFault;
@@ -247,7 +247,7 @@ pub(crate) fn read_head<R: Read>(
     wanted: &Wanted,
 ) -> Result<Version, JournalFault>
     ensures head { IsHeadFrom R.remaining device.old device.new wanted.now pieces.old pieces.new result }
-    ensures past { IfOk result (λ version. head_lines version < pieces.new.taken) }
+    ensures past { IfOk result (λ version. head_size version < pieces.new.taken) }
     ensures unfaulted { (is_faulted device.new ≡ is_faulted device.old) ⊎ (result ≡ Err JournalFault.ReadFailed) }
 {
     let version = read_version(pieces, device, wanted.day)?;

@@ -79,6 +79,6 @@ pub fn read_journal<R: Read, F: Follower>(
 {
     let mut pieces = Pieces::new();
     let version = read_head(&mut pieces, device, wanted)?;
-    let first = version.head_lines() + 1;
+    let first = version.head_size() + 1;
     read_events(&mut pieces, device, follower, version, first)
 }

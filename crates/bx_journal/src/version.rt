@@ -14,7 +14,7 @@ pub enum Version {
 }
 
 impl Version {
-    ghost use Rattle.bx_journal.specs.Versions.{has_day, head_lines, is_older};
+    ghost use Rattle.bx_journal.specs.Versions.{has_day, head_size, is_older};
 
     /// Whether its head tells a day.
     pub(crate) fn has_day(self) -> bool
@@ -39,8 +39,8 @@ impl Version {
     }
 
     /// How many lines its head has.
-    pub(crate) fn head_lines(self) -> u64
-        ensures lines { result ≡ head_lines self }
+    pub(crate) fn head_size(self) -> u64
+        ensures lines { result ≡ head_size self }
         ensures few { result ≤ 3 }
     {
         if self.has_day() { 3 } else { 2 }

@@ -5,7 +5,8 @@ ghost use Rattle.arrayvec.specs.ArrayVec.{array_vec_len};
 ghost use Rattle.bx_journal.specs.Hex.{hex_digit, hex_of};
 ghost use Rattle.bx_journal.specs.Lines.{line_ended};
 ghost use Rattle.bx_events.specs.Told.{live_event_of};
-ghost use Rattle.bx_journal.specs.Events.{IsLoggable, IsEvent, AreOctets};
+ghost use Rattle.bx_journal.specs.Inside.{IsEvent};
+ghost use Rattle.bx_journal.specs.Events.{IsLoggable, AreOctets};
 ghost use Rattle.bx_journal.specs.Text.{line_of, plan_line, day_line, journal_text};
 
 use crate::head::{Head, JournalDay, RULES};

@@ -20,4 +20,4 @@ returns-clause-read g c =
     let old = c.new-pieces.result in
     events_done g.F.Follower.followed c.args.follower.now c.read_events.new.follower c.args.wanted.now (remaining (device_of c.args.device.now)) (remaining (device_of c.read_events.new.device)) old c.read_events.new.pieces
     (ap (λ (h : Held). h.octets) c.new-pieces.ensures) (ap (λ (h : Held). h.taken) c.new-pieces.ensures) (remaining (device_of c.read_head.new.device)) c.read_head.new.pieces c.in_ok-version.version c.in_ok-version.ensures.head
-    (is_faulted c.read_events.new.device) c.read_events.result (rw c.head_lines-first.ensures.lines at c.read_events.ensures.lines)
+    (is_faulted c.read_events.new.device) c.read_events.result (rw c.head_size-first.ensures.lines at c.read_events.ensures.lines)
