@@ -13,3 +13,5 @@ mod gates;
 mod offices;
 #[cfg(test)]
 mod quiet_world;
+#[cfg(test)]
+mod wires;
