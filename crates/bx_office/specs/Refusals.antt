@@ -1,4 +1,4 @@
--- How the answers begin to what is not let through, and to what is no request.
+-- Private: how the answers begin to what is not let through, and to what is no request.
 use Rattle.std.specs.Prelude.{◌∷◌, [], ◌==◌, ◌+◌, ◌&&◌, ◌||◌, nat_le, not, if◌then◌else◌, ℕ, Bool, true, false, List, take, drop, codes}
 use Rattle.std.specs.Str.{bytes_eq}
 use Rattle.std.specs.List.{prefix_len}

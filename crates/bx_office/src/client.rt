@@ -52,13 +52,16 @@ pub struct Client {
     pub(crate) is_head: bool,
     pub(crate) query: BytesMut,
     pub(crate) body: BytesMut,
+    /// How many octets are kept for the body, from when it is let through until it is answered.
+    pub(crate) kept: usize,
     pub(crate) out: BytesMut,
     ghost unread_limit: { length unread.items ≤ MAX_UNREAD },
-    ghost body_limit: { length body.items ≤ MAX_BODY },
+    ghost body_limit: { length body.items ≤ kept },
+    ghost kept_limit: { kept ≤ MAX_BODY },
 }
 
 impl Client {
-    ghost use Rattle.std.specs.Prelude.{◌≡◌, ◌⊎◌, ◌++◌, ◌/◌, [], min, drop, slice_range, true, false, IsTrue, IfSome};
+    ghost use Rattle.std.specs.Prelude.{◌≡◌, ◌⊎◌, ◌++◌, ◌/◌, [], max, min, drop, slice_range, true, false, IsTrue, IfSome};
     ghost use Rattle.httpdate.specs.Date.{unix_secs};
     ghost use Rattle.bx_office.specs.Targets.{query_in};
     ghost use Rattle.httparse.specs.Spans.{IsRequestWithin};
@@ -72,6 +75,7 @@ impl Client {
         ensures stage { result.stage ≡ Stage.Head }
         ensures unread { result.unread.items ≡ [] }
         ensures server { result.server.limits.max_head_len ≡ MAX_UNREAD }
+        ensures kept { result.kept ≡ 0 }
     {
         Client {
             alloc,
@@ -84,6 +88,7 @@ impl Client {
             is_head: false,
             query: BytesMut::new(alloc),
             body: BytesMut::new(alloc),
+            kept: 0,
             out: BytesMut::new(alloc),
         }
     }
@@ -101,6 +106,14 @@ impl Client {
         ensures { result ≡ is_between self.now }
     {
         matches!(self.stage, Stage::Head) && self.unread.is_empty()
+    }
+
+    /// How many octets are kept for its body.
+    pub fn kept(&self) -> usize
+        ensures value { result ≡ self.now.kept }
+        ensures bound { result ≤ MAX_BODY }
+    {
+        self.kept
     }
 
     /// What it is at.
@@ -139,6 +152,7 @@ impl Client {
         requires { length octets.now ≤ room_to_read self.old }
         ensures taken { IsLeft self.new ⊎ AreOctetsTaken octets.now self.old self.new }
         ensures marks { (self.new.is_head ≡ self.old.is_head) × (self.new.has_ended ≡ self.old.has_ended) }
+        ensures kept { self.new.kept ≤ self.old.kept }
     {
         if self.unread.extend_from_slice(octets).is_err() {
             self.leave();
@@ -187,16 +201,21 @@ impl Client {
         ensures left { IsLeft self.new }
         ensures place { self.new.place ≡ self.old.place }
         ensures marks { (self.new.is_head ≡ self.old.is_head) × (self.new.has_ended ≡ self.old.has_ended) }
+        ensures kept { self.new.kept ≡ 0 }
     {
         self.out.clear();
+        self.body = BytesMut::new(self.alloc);
+        self.kept = 0;
         self.stage = Stage::Last;
     }
 
     /// Reads one thing of what came: a head, a piece of a body, its end. Answers whether there may be more. What is no request of HTTP/1.1
-    /// within the limits, and what the gate does not let through, is answered here.
-    pub fn step(&mut self) -> bool
+    /// within the limits, and what the gate does not let through, is answered here; so is a body for which more octets would have to be kept
+    /// than are free.
+    pub fn step(&mut self, free: usize) -> bool
         ensures due { IsDueAfter self.old self.new self.new.stage }
         ensures place { self.new.place ≡ self.old.place }
+        ensures kept { self.new.kept ≤ max self.old.kept free }
     {
         if !self.is_reading() {
             return false;
@@ -205,13 +224,13 @@ impl Client {
         let read = match self.server.read(self.unread.as_slice(), &mut spans) {
             Ok(read) => read,
             Err(fault) => {
-                let reply = faulting(fault, self.unread.as_slice());
-                self.send(reply, true);
+                let told = faulting(fault, self.unread.as_slice());
+                self.send(told, true);
                 return false;
             }
         };
         match read.event {
-            Event::Head(head) => self.begin(&head, &spans),
+            Event::Head(head) => self.begin(&head, &spans, free),
             Event::Data(piece) => self.keep(piece),
             Event::End(_) => self.finish(read.consumed),
             Event::NeedMore => {
@@ -234,6 +253,7 @@ impl Client {
         ensures taken { IfSome result (IsHeadTaken spans.now head.now self.old self.new) }
         ensures unread { self.new.unread.items ≡ drop head.now.len self.old.unread.items }
         ensures place { self.new.place ≡ self.old.place }
+        ensures kept { self.new.kept ≡ self.old.kept }
     {
         self.query.clear();
         let input = self.unread.as_slice();
@@ -246,11 +266,12 @@ impl Client {
     }
 
     /// A head was read.
-    fn begin(&mut self, head: &RequestSpans, spans: &[HeaderSpan])
+    fn begin(&mut self, head: &RequestSpans, spans: &[HeaderSpan], free: usize)
         requires within { IsRequestWithin self.old.unread.items spans.now head.now }
         requires len { head.now.len ≤ length self.old.unread.items }
         ensures stage { IsUndue self.new.stage ⊎ IsBodyBegun spans.now head.now self.old self.new }
         ensures place { self.new.place ≡ self.old.place }
+        ensures kept { self.new.kept ≤ max self.old.kept free }
     {
         let Some(verdict) = self.take_head(head, spans) else {
             return self.leave();
@@ -262,7 +283,7 @@ impl Client {
             );
         }
         match verdict {
-            Ok(route) => self.admit(route),
+            Ok(route) => self.admit(route, free),
             Err(refusal) => self.refuse(refusal),
         }
     }
@@ -271,6 +292,7 @@ impl Client {
     fn refuse(&mut self, refusal: Refusal)
         ensures stage { IsUndue self.new.stage }
         ensures place { self.new.place ≡ self.old.place }
+        ensures kept { self.new.kept ≤ self.old.kept }
     {
         match self.server.unread_size() {
             BodySize::Known(0) => self.stage = Stage::Refused(refusal),
@@ -278,28 +300,52 @@ impl Client {
         }
     }
 
-    /// The request is let through: its body is due, where it is not too long.
-    fn admit(&mut self, route: Route)
+    /// How many octets are to be kept for the body that is due: its length, or as many as a body may have where that is not said. None where it
+    /// is too long.
+    fn wanted(&self) -> Option<usize>
+        ensures { IfSome result (λ count. count ≤ MAX_BODY) }
+    {
+        match self.server.unread_size() {
+            BodySize::Known(len) if len > MAX_BODY as u64 => None,
+            BodySize::Known(len) => Some(len as usize),
+            _ => Some(MAX_BODY),
+        }
+    }
+
+    /// Says that the body is wanted, where the client waits for that. Answers whether memory was had.
+    fn ask_for_body(&mut self) -> bool
+        ensures { self.new ≡ record self.old { server = self.new.server; out = self.new.out } }
+    {
+        !self.server.expects_continue()
+            || self
+                .server
+                .write_informational(&mut self.out, 100, b"Continue", &[])
+                .is_ok()
+    }
+
+    /// The request is let through: its body is due, where it is not too long, and no longer than is free.
+    fn admit(&mut self, route: Route, free: usize)
         ensures stage { IsUndue self.new.stage ⊎ IsBodyDue route self.old self.new }
         ensures place { self.new.place ≡ self.old.place }
+        ensures kept { self.new.kept ≤ max self.old.kept free }
     {
-        self.body.clear();
-        if let BodySize::Known(len) = self.server.unread_size()
-            && len > MAX_BODY as u64
-        {
+        let Some(wanted) = self.wanted() else {
             return self.send(
                 giving_up(Status::ContentTooLarge, "more than 4194304 octets\n"),
                 true,
             );
+        };
+        if wanted > free {
+            return self.send(
+                giving_up(Status::Unavailable, "too many bodies at once\n"),
+                true,
+            );
         }
-        if self.server.expects_continue()
-            && self
-                .server
-                .write_informational(&mut self.out, 100, b"Continue", &[])
-                .is_err()
-        {
+        if !self.ask_for_body() {
             return self.leave();
         }
+        self.body.clear();
+        self.kept = wanted;
         self.stage = Stage::Body(route);
     }
 
@@ -308,9 +354,10 @@ impl Client {
         requires { (piece.start ≤ piece.end) × (piece.end ≤ length self.old.unread.items) }
         ensures stage { IsUndue self.new.stage ⊎ HasKept (slice_range self.old.unread.items piece.start piece.end) self.old self.new }
         ensures place { self.new.place ≡ self.old.place }
+        ensures kept { self.new.kept ≤ self.old.kept }
     {
         let count = piece.end - piece.start;
-        if count > MAX_BODY.saturating_sub(self.body.len()) {
+        if count > self.kept.saturating_sub(self.body.len()) {
             return self.send(
                 giving_up(Status::ContentTooLarge, "more than 4194304 octets\n"),
                 true,
@@ -329,6 +376,7 @@ impl Client {
         requires { consumed ≤ length self.old.unread.items }
         ensures stage { IsUndue self.new.stage ⊎ HasAsked self.old self.new }
         ensures place { self.new.place ≡ self.old.place }
+        ensures kept { self.new.kept ≤ self.old.kept }
     {
         self.unread.advance(consumed);
         match self.stage {
@@ -343,6 +391,7 @@ impl Client {
         requires { consumed ≤ length self.old.unread.items }
         ensures stage { IsLeft self.new ⊎ ((self.new.stage ≡ self.old.stage) × (self.new.query ≡ self.old.query) × (self.new.body ≡ self.old.body)) }
         ensures place { self.new.place ≡ self.old.place }
+        ensures kept { self.new.kept ≤ self.old.kept }
     {
         self.unread.advance(consumed);
         if self.has_ended || self.unread.len() >= MAX_UNREAD {
@@ -356,6 +405,7 @@ impl Client {
         ensures next { IsAfterAnswer self.new.stage }
         ensures place { self.new.place ≡ self.old.place }
         ensures ended { self.new.has_ended ≡ self.old.has_ended }
+        ensures kept { self.new.kept ≡ 0 }
     {
         self.send(reply, false);
     }
@@ -366,6 +416,7 @@ impl Client {
         ensures last { self.new.stage ≡ Stage.Last }
         ensures place { self.new.place ≡ self.old.place }
         ensures ended { self.new.has_ended ≡ self.old.has_ended }
+        ensures kept { self.new.kept ≡ 0 }
     {
         self.send(reply, true);
     }
@@ -377,6 +428,7 @@ impl Client {
         ensures last { IsTrue is_last → self.new.stage ≡ Stage.Last }
         ensures place { self.new.place ≡ self.old.place }
         ensures ended { self.new.has_ended ≡ self.old.has_ended }
+        ensures kept { self.new.kept ≡ 0 }
     {
         let how = Sending {
             date: self.date,
@@ -388,6 +440,7 @@ impl Client {
         }
         self.query.clear();
         self.body = BytesMut::new(self.alloc);
+        self.kept = 0;
         self.is_head = false;
         self.stage = if is_last || self.server.is_closed() {
             Stage::Last

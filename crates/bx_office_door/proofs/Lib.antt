@@ -1,2 +1,3 @@
 pub mod Standing
 pub mod GivenNumbers
+pub mod KeptSums

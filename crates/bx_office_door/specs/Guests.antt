@@ -38,6 +38,7 @@ pub record IsReplied (reply : Reply) (old new : Client) : Type 0 where
   pub said : IsLeft new ⊎ (new.out.items ≡ old.out.items ++ reply_text old.server old.date old.is_head reply false)
   pub next : IsAfterAnswer new.stage
   pub place : new.place ≡ old.place
+  pub kept : new.kept ≡ 0
 
 -- .. and of who stands at the door, and stays there
 pub record IsGuestTold (reply : Reply) (old new : Guest) : Type 0 where
@@ -62,6 +63,13 @@ pub record IsAnswered (number : ℕ) (reply : Reply) (old new : List Guest) : Ty
 -- .. where it is there; else all stand as they stood
 abbrev pub IsAnsweredThere : ℕ → Reply → List Guest → List Guest → Type 0
 IsAnsweredThere number reply old new = ((client_of number old ≡ None) × (new ≡ old)) ⊎ IsAnswered number reply old new
+
+-- ---- what is kept
+
+-- how many octets are kept for all their bodies
+abbrev pub kept_of : List Guest → ℕ
+kept_of [] = 0
+kept_of (g ∷ more) = g.client.kept + kept_of more
 
 -- ---- which numbers are given
 

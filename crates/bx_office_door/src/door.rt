@@ -1,16 +1,22 @@
-//! The door: a listener, and at most 16 clients.
+//! The door: a listener, and at most 64 clients, with a few beyond them.
 
-ghost use Rattle.std.specs.Prelude.{◌≡◌, ◌≤◌, true, vec_len};
-ghost use Rattle.bx_office_door.specs.Guests.{numbers_of, are_given};
-ghost use Rattle.bx_office_door.specs.declared.door.TheConstants.{MAX_GUESTS};
+ghost use Rattle.std.specs.Prelude.{◌≡◌, ◌+◌, ◌≤◌, true, vec_len};
+ghost use Rattle.bx_office_door.specs.Guests.{numbers_of, are_given, kept_of};
+ghost use Rattle.bx_office_door.specs.declared.door.TheConstants.{MAX_GUESTS, SPARE, MAX_KEPT};
 
 use crate::guest::Guest;
 use crate::stream::Listening;
 use bx_office::{Client, Place, Reply, Route, Stage};
 use std::alloc::Global;
 
-/// The most clients at a time; others wait in the queue of the listener.
-const MAX_GUESTS: usize = 16;
+/// The places. Whoever comes beyond them is told when to ask again.
+const MAX_GUESTS: usize = 64;
+
+/// How many may come beyond them at a time, of whom each is let to ask for `/healthz` and `/metrics`; others wait in the queue of the listener.
+const SPARE: usize = 4;
+
+/// The most octets of all bodies together: 32 MiB.
+const MAX_KEPT: usize = 33_554_432;
 
 /// A listener with its clients, each of which has a number that no other one is ever given. Nothing here ever waits.
 #[derive(Drop)]
@@ -25,14 +31,16 @@ pub struct Door {
     answers: u64,
     /// What the clock showed last, in nanoseconds.
     shown: u128,
-    ghost few: { vec_len guests ≤ MAX_GUESTS },
+    ghost few: { vec_len guests ≤ MAX_GUESTS + SPARE },
+    ghost kept: { kept_of guests.items ≤ MAX_KEPT },
     ghost given: { are_given count (numbers_of guests.items) ≡ true },
 }
 
 impl Door {
-    ghost use Rattle.std.specs.Prelude.{◌++◌, ◌+◌, [], None, Some, MatchOption, filter, not, if◌then◌else◌};
+    ghost use Rattle.std.specs.Prelude.{◌++◌, ◌-◌, ◌<◌, [], None, Some, MatchOption, filter, not, if◌then◌else◌, slice_index_or};
     ghost use Rattle.bx_office_door.specs.Guests.{first_asked, client_of, given_since, IsAnsweredThere};
     ghost use Rattle.bx_office_door.specs.Places.{IsFirstGuest};
+    ghost use Rattle.bx_office_door.specs.declared.guest.Guest.{Guest};
     ghost use Rattle.bx_office_door.specs.Doors.{answers_after, guests_of, IsAttended};
 
     /// A door where nobody stands yet.
@@ -52,28 +60,51 @@ impl Door {
         }
     }
 
-    /// Lets in who waits, while there is room and there are numbers.
+    /// Lets in who waits, while there is room and there are numbers: to the places, and a few beyond them.
     fn let_in(&mut self, now: u128)
         ensures count { self.old.count ≤ self.new.count }
         ensures numbers { numbers_of (guests_of self.new) ≡ numbers_of (guests_of self.old) ++ given_since self.old.count self.new.count }
         ensures others { (self.new.answers ≡ self.old.answers) × (self.new.shown ≡ self.old.shown) }
     {
         for _guest in 0..MAX_GUESTS {
-            if self.guests.len() >= MAX_GUESTS {
+            if self.guests.len() >= MAX_GUESTS + SPARE {
                 return;
             }
+            let is_spare = self.guests.len() >= MAX_GUESTS;
             let Some(number) = self.count.checked_add(1) else {
                 return;
             };
             let Some(stream) = self.listening.accept() else {
                 return;
             };
-            let guest = Guest::new(self.alloc, self.place, number, stream, now);
+            let guest = Guest::new(self.alloc, self.place, number, stream, now, is_spare);
             if self.guests.push(guest).is_err() {
                 return;
             }
             self.count = number;
         }
+    }
+
+    /// How many octets are kept for all bodies.
+    fn kept(&self) -> usize
+        ensures { result ≡ kept_of (guests_of self.now) }
+    {
+        let mut sum = 0usize;
+        for guest in &self.guests {
+            sum += guest.client().kept();
+        }
+        sum
+    }
+
+    /// How many octets may be kept for the body of the client at this index, beside those of the others.
+    fn free_at(&self, index: usize) -> usize
+        requires { index < vec_len self.now.guests }
+        ensures { (g : Guest) → result ≡ MAX_KEPT - (kept_of (guests_of self.now) - (slice_index_or (guests_of self.now) index g).client.kept) }
+    {
+        let others = self
+            .kept()
+            .saturating_sub(self.guests[index].client().kept());
+        MAX_KEPT.saturating_sub(others)
     }
 
     /// Moves what is ready of each client.
@@ -82,8 +113,10 @@ impl Door {
         ensures numbers { numbers_of (guests_of self.new) ≡ numbers_of (guests_of self.old) }
         ensures others { (self.new.answers ≡ self.old.answers) × (self.new.shown ≡ self.old.shown) }
     {
+        let is_full = self.guests.len() > MAX_GUESTS;
         for index in 0..self.guests.len() {
-            self.guests[index].attend(now);
+            let free = self.free_at(index);
+            self.guests[index].attend(now, is_full, free);
         }
     }
 

@@ -1,15 +1,18 @@
 //! A client at the door.
 
-ghost use Rattle.std.specs.Prelude.{◌≡◌, false, Some, length};
+ghost use Rattle.std.specs.Prelude.{◌≡◌, ◌≤◌, max, true, false, Some, length};
 ghost use Rattle.bx_office_door.specs.Guests.{IsGuestTold};
-ghost use Rattle.bx_office_door.specs.Patience.{patience_of, is_late};
+ghost use Rattle.bx_office_door.specs.Patience.{patience_of, is_late, may_stand, is_watched};
 
 use crate::stream::{Came, Stream};
-use bx_office::{Client, Place, Reply, Stage, page, too_slow};
+use bx_office::{Client, Place, Reply, Route, Stage, crowded, page, too_slow};
 use std::alloc::Global;
 
 /// How long a request takes at most, and how long the next one is waited for: 10 seconds, in nanoseconds.
 const PATIENCE: u128 = 10_000_000_000;
+
+/// How long a client may send and take nothing where others wait, and how long one has that came beyond the places: 2 seconds.
+const BRIEF: u128 = 2_000_000_000;
 
 /// How many octets of a body give it a second more.
 const BODY_A_SECOND: usize = 16_384;
@@ -30,15 +33,28 @@ pub struct Guest {
     client: Client,
     /// When it came, was sent its last answer, or began its request, in nanoseconds; not known yet where it was just answered.
     since: Option<u128>,
+    /// When an octet came from it or went to it last, in nanoseconds.
+    heard: u128,
+    /// It came beyond the places, and is let to ask for nothing but what a monitor asks for.
+    is_spare: bool,
     /// Nothing more is sent: what still comes is thrown away, so that the answer is not lost with it.
     is_shut: bool,
     is_gone: bool,
 }
 
 impl Guest {
-    /// A client that came now.
-    pub fn new(alloc: Global, place: Place, number: u64, stream: Stream, now: u128) -> Guest
+    /// A client that came now: to a place, or beyond the places.
+    pub fn new(
+        alloc: Global,
+        place: Place,
+        number: u64,
+        stream: Stream,
+        now: u128,
+        is_spare: bool,
+    ) -> Guest
         ensures number { result.number ≡ number }
+        ensures spare { result.is_spare ≡ is_spare }
+        ensures kept { result.client.kept ≡ 0 }
         ensures place { result.client.place ≡ place }
         ensures stage { result.client.stage ≡ Stage.Head }
         ensures stays { (result.is_shut ≡ false) × (result.is_gone ≡ false) }
@@ -49,6 +65,8 @@ impl Guest {
             stream,
             client: Client::new(alloc, place),
             since: Some(now),
+            heard: now,
+            is_spare,
             is_shut: false,
             is_gone: false,
         }
@@ -85,7 +103,8 @@ impl Guest {
 
     /// Reads once. Answers whether something came. With its first octet a request has its time before it.
     fn read(&mut self, now: u128) -> bool
-        ensures { self.new.number ≡ self.old.number }
+        ensures number { self.new.number ≡ self.old.number }
+        ensures kept { self.new.client.kept ≤ self.old.client.kept }
     {
         let mut room = [0u8; 4096];
         let most = self.client.room().min(room.len());
@@ -99,6 +118,7 @@ impl Guest {
                     self.since = Some(now);
                 }
                 self.client.take(&room[..count]);
+                self.heard = now;
                 true
             }
             Came::End => {
@@ -108,25 +128,41 @@ impl Guest {
         }
     }
 
-    /// Reads on in what came, and answers what needs nothing of the day.
-    fn advance(&mut self)
-        ensures { self.new.number ≡ self.old.number }
+    /// Answers what needs nothing of the day; and who came beyond the places, and asks for what is not for a monitor, by when to ask again.
+    fn reply(&mut self)
+        ensures number { self.new.number ≡ self.old.number }
+        ensures spare { may_stand self.new.is_spare self.new.client.stage ≡ true }
+        ensures kept { self.new.client.kept ≤ self.old.client.kept }
     {
-        for _step in 0..STEPS {
-            if !self.client.step() {
-                break;
-            }
+        let stage = self.client.stage();
+        if !may_stand(self.is_spare, stage) {
+            return self.client.dismiss(crowded());
         }
-        if let Stage::Asked(route) = self.client.stage()
+        if let Stage::Asked(route) = stage
             && let Some(reply) = page(route)
         {
             self.client.answer(reply);
         }
     }
 
+    /// Reads on in what came: of a body as many octets may be kept as are free.
+    fn advance(&mut self, free: usize)
+        ensures number { self.new.number ≡ self.old.number }
+        ensures spare { may_stand self.new.is_spare self.new.client.stage ≡ true }
+        ensures kept { self.new.client.kept ≤ max self.old.client.kept free }
+    {
+        for _step in 0..STEPS {
+            if !self.client.step(free) {
+                break;
+            }
+        }
+        self.reply();
+    }
+
     /// Writes once. Answers whether something went.
     fn write(&mut self, now: u128) -> bool
-        ensures { self.new.number ≡ self.old.number }
+        ensures number { self.new.number ≡ self.old.number }
+        ensures kept { self.new.client.kept ≤ self.old.client.kept }
     {
         if self.client.pending().is_empty() {
             return false;
@@ -135,6 +171,7 @@ impl Guest {
             Came::Nothing => false,
             Came::Octets(count) => {
                 self.client.sent(count);
+                self.heard = now;
                 if self.client.pending().is_empty() {
                     self.since = Some(now);
                 }
@@ -149,7 +186,8 @@ impl Guest {
 
     /// Throws away what still comes after the last answer. Answers whether something came.
     fn drain(&mut self) -> bool
-        ensures { self.new.number ≡ self.old.number }
+        ensures number { self.new.number ≡ self.old.number }
+        ensures kept { self.new.client.kept ≤ self.old.client.kept }
     {
         if !self.is_shut {
             self.stream.shut();
@@ -167,34 +205,39 @@ impl Guest {
     }
 
     /// Moves once what is ready.
-    fn turn(&mut self, now: u128) -> bool
-        ensures { self.new.number ≡ self.old.number }
+    fn turn(&mut self, now: u128, free: usize) -> bool
+        ensures number { self.new.number ≡ self.old.number }
+        ensures kept { self.new.client.kept ≤ max self.old.client.kept free }
     {
         if self.client.is_over() {
             return self.drain();
         }
         let has_read = self.read(now);
-        self.advance();
+        self.advance(free);
         let has_written = self.write(now);
         has_read || has_written
     }
 
     /// How long it has: a body has a second more for so many octets of it.
     fn patience(&self) -> u128
-        ensures { result ≡ patience_of (length self.now.client.body.items) }
+        ensures { result ≡ patience_of self.now.is_spare (length self.now.client.body.items) }
     {
+        if self.is_spare {
+            return BRIEF;
+        }
         let octets = self.client.body().len() / BODY_A_SECOND;
         PATIENCE + octets as u128 * SECOND
     }
 
-    /// Whether its time is over. A request that waits for its answer has time.
-    fn is_late(&self, now: u128) -> bool
-        ensures { result ≡ is_late now self.now.since self.now.client }
+    /// Whether its time is over, where others wait, or where none do. A request that waits for its answer has time.
+    fn is_late(&self, now: u128, is_full: bool) -> bool
+        ensures { result ≡ is_late now is_full self.now }
     {
         match self.since {
             Some(since) => {
                 !matches!(self.client.stage(), Stage::Asked(_))
-                    && now.saturating_sub(since) > self.patience()
+                    && (now.saturating_sub(since) > self.patience()
+                        || (is_full && now.saturating_sub(self.heard) > BRIEF))
             }
             None => false,
         }
@@ -202,7 +245,8 @@ impl Guest {
 
     /// Gives the client up. Where the rest of a body is due it is told so, and has the time to read that.
     fn give_up(&mut self, now: u128)
-        ensures { self.new.number ≡ self.old.number }
+        ensures number { self.new.number ≡ self.old.number }
+        ensures kept { self.new.client.kept ≤ self.old.client.kept }
     {
         if let Stage::Body(_) = self.client.stage() {
             self.client.dismiss(too_slow());
@@ -213,27 +257,59 @@ impl Guest {
     }
 
     /// Moves what is ready, as often as something is.
-    fn go_on(&mut self, now: u128)
-        ensures { self.new.number ≡ self.old.number }
+    fn go_on(&mut self, now: u128, free: usize)
+        ensures number { self.new.number ≡ self.old.number }
+        ensures kept { self.new.client.kept ≤ max self.old.client.kept free }
     {
         for _turn in 0..TURNS {
-            if self.is_gone || !self.turn(now) {
+            if self.is_gone || !self.turn(now, free) {
                 return;
             }
         }
     }
 
-    /// Moves what is ready, and never waits. Whoever asks again at the last moment is heard before it is sent away.
-    pub fn attend(&mut self, now: u128)
-        ensures { self.new.number ≡ self.old.number }
+    /// Takes note of the clock, and of a place that is free.
+    fn note(&mut self, now: u128, is_full: bool)
+        ensures number { self.new.number ≡ self.old.number }
+        ensures kept { self.new.client.kept ≡ self.old.client.kept }
     {
         self.client.set_clock(now);
         if self.since.is_none() {
             self.since = Some(now);
         }
-        self.go_on(now);
-        if self.is_late(now) {
+        self.is_spare = self.is_spare && is_full;
+    }
+
+    /// Moves what is ready, and never waits; of a body as many octets may be kept as are free. Whoever asks again at the last moment is heard
+    /// before it is sent away.
+    pub fn attend(&mut self, now: u128, is_full: bool, free: usize)
+        ensures number { self.new.number ≡ self.old.number }
+        ensures kept { self.new.client.kept ≤ max self.old.client.kept free }
+    {
+        self.note(now, is_full);
+        self.go_on(now, free);
+        if self.is_late(now, is_full) {
             self.give_up(now);
         }
+    }
+}
+
+/// Whether a client that came beyond the places may be at this: it asks for what a monitor asks for, or has not asked yet.
+fn may_stand(is_spare: bool, stage: Stage) -> bool
+    ensures { result ≡ may_stand is_spare stage }
+{
+    match stage {
+        Stage::Body(route) | Stage::Asked(route) => !is_spare || is_watched(route),
+        _ => true,
+    }
+}
+
+/// Whether a monitor asks for it.
+fn is_watched(route: Route) -> bool
+    ensures { result ≡ is_watched route }
+{
+    match route {
+        Route::Health | Route::Metrics => true,
+        _ => false,
     }
 }

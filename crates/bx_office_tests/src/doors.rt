@@ -135,10 +135,19 @@ fn who_asks_again_at_the_last_moment_is_heard(rt: HostRuntime) -> Result<(), Fai
     let sent = request(rt.alloc(), "/plan", port)?;
     let mut kept = client(&rt, port, &sent)?;
     assert!(rt; asks(&mut door, 0) == Some(Route::Plan), "asked");
-    assert!(rt; begins(&mut door, &mut kept, SECOND, b"HTTP/1.1 200 OK"), "answered");
+    assert!(rt;
+        begins(&mut door, &mut kept, SECOND, b"HTTP/1.1 200 OK"),
+        "answered"
+    );
     kept.write_all(&sent)?;
-    assert!(rt; asks(&mut door, 12 * SECOND) == Some(Route::Plan), "asked again");
-    assert!(rt; begins(&mut door, &mut kept, 12 * SECOND, b"HTTP/1.1 200 OK"), "answered again");
+    assert!(rt;
+        asks(&mut door, 12 * SECOND) == Some(Route::Plan),
+        "asked again"
+    );
+    assert!(rt;
+        begins(&mut door, &mut kept, 12 * SECOND, b"HTTP/1.1 200 OK"),
+        "answered again"
+    );
     assert!(rt; begins(&mut door, &mut kept, 23 * SECOND, b""), "sent away");
     Ok(())
 }
@@ -156,14 +165,19 @@ fn a_request_has_its_time_from_its_first_octet(rt: HostRuntime) -> Result<(), Fa
         door.attend(9 * SECOND);
     }
     late.write_all(&sent[9..])?;
-    assert!(rt; begins(&mut door, &mut late, 18 * SECOND, b"HTTP/1.1 200 OK"), "answered");
+    assert!(rt;
+        begins(&mut door, &mut late, 18 * SECOND, b"HTTP/1.1 200 OK"),
+        "answered"
+    );
     Ok(())
 }
 
 #[test]
 fn a_body_that_comes_slowly_has_more_time(rt: HostRuntime) -> Result<(), Fail> {
     let (mut door, port) = opened(&rt, rt.alloc())?;
-    let head = format!(in rt.alloc(); "POST /bookings HTTP/1.1\r\nHost: localhost:{port}\r\nContent-Type: text/csv\r\nContent-Length: 50000\r\n\r\n")?;
+    let head = format!(in rt.alloc();
+        "POST /bookings HTTP/1.1\r\nHost: localhost:{port}\r\nContent-Type: text/csv\r\nContent-Length: 50000\r\n\r\n"
+    )?;
     let mut slow = client(&rt, port, head.as_bytes())?;
     for _piece in 0..8u32 {
         slow.write_all(&[b'1'; 4096])?;
@@ -171,9 +185,17 @@ fn a_body_that_comes_slowly_has_more_time(rt: HostRuntime) -> Result<(), Fail> {
     for _turn in 0..100u32 {
         door.attend(0);
     }
-    assert!(rt; !begins(&mut door, &mut slow, 11 * SECOND, b""), "it has more time");
     assert!(rt;
-        begins(&mut door, &mut slow, 13 * SECOND, b"HTTP/1.1 408 Request Timeout\r\n"),
+        !begins(&mut door, &mut slow, 11 * SECOND, b""),
+        "it has more time"
+    );
+    assert!(rt;
+        begins(
+            &mut door,
+            &mut slow,
+            13 * SECOND,
+            b"HTTP/1.1 408 Request Timeout\r\n"
+        ),
         "it is too slow"
     );
     Ok(())
@@ -195,25 +217,122 @@ fn a_foreign_page_is_refused(rt: HostRuntime) -> Result<(), Fail> {
     Ok(())
 }
 
-#[test]
-fn the_seventeenth_waits(rt: HostRuntime) -> Result<(), Fail> {
-    let (mut door, port) = opened(&rt, rt.alloc())?;
-    let mut silent = Vec::new(rt.alloc());
-    for _client in 0..16u32 {
-        silent.push(client(&rt, port, b"")?)?;
+/// What is told whoever comes beyond the places.
+const CROWDED: &[u8] =
+    b"HTTP/1.1 503 Service Unavailable\r\ndate: Thu, 01 Jan 1970 00:00:00 GMT\r\ncontent-type: text/plain; charset=utf-8\r\ncache-control: no-store\r\nx-content-type-options: nosniff\r\ncross-origin-resource-policy: same-origin\r\ncontent-security-policy: default-src 'none'; script-src 'self'; style-src 'self'; img-src 'self'; connect-src 'self'; base-uri 'none'; form-action 'none'; frame-ancestors 'none'\r\nretry-after: 1\r\nconnection: close\r\ncontent-length: 21\r\n\r\ntoo many at the door\n";
+
+/// So many clients who have come, and say nothing.
+fn silent<H: Net<Listener = TcpListener, Stream = TcpStream>>(
+    rt: &H,
+    alloc: Global,
+    door: &mut Door,
+    port: u16,
+    count: u32,
+) -> Result<Vec<TcpStream>, Fail> {
+    let mut clients = Vec::new(alloc);
+    for _client in 0..count {
+        clients.push(client(rt, port, b"")?)?;
     }
     for _turn in 0..100u32 {
         door.attend(0);
     }
+    Ok(clients)
+}
+
+#[test]
+fn whoever_comes_beyond_the_places_is_told_when_to_ask_again(rt: HostRuntime) -> Result<(), Fail> {
+    let (mut door, port) = opened(&rt, rt.alloc())?;
+    let _silent = silent(&rt, rt.alloc(), &mut door, port, 64)?;
+    let sent = request(rt.alloc(), "/", port)?;
+    let mut one = client(&rt, port, &sent)?;
+    assert!(rt; begins(&mut door, &mut one, 0, CROWDED), "a page");
+    let sent = request(rt.alloc(), "/plan", port)?;
+    let mut two = client(&rt, port, &sent)?;
+    assert!(rt; begins(&mut door, &mut two, 0, CROWDED), "a plan");
+    assert!(rt; door.asked().is_none(), "nothing is asked");
+    Ok(())
+}
+
+#[test]
+fn a_monitor_is_answered_beyond_the_places(rt: HostRuntime) -> Result<(), Fail> {
+    let (mut door, port) = opened(&rt, rt.alloc())?;
+    let _silent = silent(&rt, rt.alloc(), &mut door, port, 64)?;
+    let health = request(rt.alloc(), "/healthz", port)?;
+    let _one = client(&rt, port, &health)?;
+    assert!(rt; asks(&mut door, 0) == Some(Route::Health), "health");
+    let figures = request(rt.alloc(), "/metrics", port)?;
+    let _two = client(&rt, port, &figures)?;
+    assert!(rt; asks(&mut door, 0) == Some(Route::Metrics), "figures");
+    Ok(())
+}
+
+#[test]
+fn a_hundred_silent_ones_hold_the_door_for_two_seconds(rt: HostRuntime) -> Result<(), Fail> {
+    let (mut door, port) = opened(&rt, rt.alloc())?;
+    let _silent = silent(&rt, rt.alloc(), &mut door, port, 100)?;
     let sent = request(rt.alloc(), "/", port)?;
     let mut last = client(&rt, port, &sent)?;
+    for _turn in 0..20u32 {
+        door.attend(2 * SECOND);
+    }
+    assert!(rt; !begins(&mut door, &mut last, 2 * SECOND, b""), "it waits");
     assert!(rt;
-        !begins(&mut door, &mut last, 0, b"HTTP/1.1 200 OK"),
-        "it waits"
+        begins(&mut door, &mut last, 2 * SECOND + 1, b"HTTP/1.1 200 OK"),
+        "they are sent away"
+    );
+    Ok(())
+}
+
+#[test]
+fn who_says_nothing_stays_where_nobody_waits(rt: HostRuntime) -> Result<(), Fail> {
+    let (mut door, port) = opened(&rt, rt.alloc())?;
+    let mut silent = silent(&rt, rt.alloc(), &mut door, port, 64)?;
+    assert!(rt;
+        !begins(&mut door, &mut silent[0], 9 * SECOND, b""),
+        "it stays"
     );
     assert!(rt;
-        begins(&mut door, &mut last, 11 * SECOND, b"HTTP/1.1 200 OK"),
-        "they are sent away"
+        begins(&mut door, &mut silent[0], 11 * SECOND, b""),
+        "it is sent away"
+    );
+    Ok(())
+}
+
+#[test]
+fn eight_long_bodies_are_kept_at_a_time(rt: HostRuntime) -> Result<(), Fail> {
+    let (mut door, port) = opened(&rt, rt.alloc())?;
+    let head = format!(in rt.alloc();
+        "POST /bookings HTTP/1.1\r\nHost: localhost:{port}\r\nContent-Type: text/csv\r\nContent-Length: 4194304\r\nExpect: 100-continue\r\n\r\n"
+    )?;
+    let mut clients = Vec::new(rt.alloc());
+    for _client in 0..8u32 {
+        let mut stream = client(&rt, port, head.as_bytes())?;
+        assert!(rt;
+            begins(&mut door, &mut stream, 0, b"HTTP/1.1 100 Continue\r\n\r\n"),
+            "wanted"
+        );
+        clients.push(stream)?;
+    }
+    let mut ninth = client(&rt, port, head.as_bytes())?;
+    assert!(rt;
+        begins(
+            &mut door,
+            &mut ninth,
+            0,
+            b"HTTP/1.1 503 Service Unavailable\r\n"
+        ),
+        "too many"
+    );
+    clients.remove(0);
+    let mut tenth = client(&rt, port, head.as_bytes())?;
+    assert!(rt;
+        begins(
+            &mut door,
+            &mut tenth,
+            SECOND,
+            b"HTTP/1.1 100 Continue\r\n\r\n"
+        ),
+        "one has left"
     );
     Ok(())
 }

@@ -260,10 +260,10 @@ fn answer(alloc: Global, client: &mut Client, route: Route) -> Result<(), AllocE
     Ok(())
 }
 
-/// Reads on in what came, and answers.
-fn advance(alloc: Global, client: &mut Client) -> Result<(), AllocError> {
+/// Reads on in what came, where so many octets of a body may be kept, and answers.
+fn advance(alloc: Global, client: &mut Client, free: usize) -> Result<(), AllocError> {
     for _step in 0..100_000u32 {
-        if !client.step() {
+        if !client.step(free) {
             break;
         }
     }
@@ -273,8 +273,11 @@ fn advance(alloc: Global, client: &mut Client) -> Result<(), AllocError> {
     Ok(())
 }
 
-/// Gives a client octets in pieces of this size, and gathers what it is sent.
-fn exchange(alloc: Global, sent: &[u8], size: usize) -> Result<Vec<u8>, AllocError> {
+/// The most octets that a body has.
+const MAX_BODY: usize = 4_194_304;
+
+/// Gives a client octets in pieces of this size, where so many octets of a body may be kept, and gathers what it is sent.
+fn exchange(alloc: Global, sent: &[u8], size: usize, free: usize) -> Result<Vec<u8>, AllocError> {
     let mut client = Client::new(alloc, Place::Port(8080));
     client.set_clock(SHOWN);
     let mut got = Vec::new(alloc);
@@ -283,7 +286,7 @@ fn exchange(alloc: Global, sent: &[u8], size: usize) -> Result<Vec<u8>, AllocErr
         let count = client.room().min(size).min(rest.len());
         client.take(&rest[..count]);
         rest = &rest[count..];
-        advance(alloc, &mut client)?;
+        advance(alloc, &mut client, free)?;
         let pending = client.pending().len();
         got.extend_from_slice(client.pending())?;
         client.sent(pending);
@@ -308,7 +311,7 @@ fn whole(alloc: Global, answer: &str) -> Result<Vec<u8>, AllocError> {
 
 /// Whether the client is sent just this, where octets come in pieces of this size.
 fn is_sent(alloc: Global, case: &Case, size: usize) -> Result<bool, AllocError> {
-    let got = exchange(alloc, case.sent.as_bytes(), size)?;
+    let got = exchange(alloc, case.sent.as_bytes(), size, MAX_BODY)?;
     let wanted = whole(alloc, case.answer)?;
     Ok(got.as_slice() == wanted.as_slice())
 }
@@ -331,13 +334,7 @@ fn clients_are_answered(rt: HostRuntime) {
 }
 
 /// Heads that are too long: their name, what they begin with, what comes again and again after that, how often, and the answer.
-type Long = (
-    &'static str,
-    &'static str,
-    &'static str,
-    u32,
-    &'static str,
-);
+type Long = (&'static str, &'static str, &'static str, u32, &'static str);
 
 static LONG: [Long; 5] = [
     (
@@ -384,7 +381,7 @@ fn is_told(alloc: Global, long: &Long) -> Result<bool, AllocError> {
     for _time in 0..long.3 {
         sent.extend_from_slice(long.2.as_bytes())?;
     }
-    let got = exchange(alloc, &sent, 4096)?;
+    let got = exchange(alloc, &sent, 4096, MAX_BODY)?;
     let wanted = whole(alloc, long.4)?;
     Ok(got.as_slice() == wanted.as_slice())
 }
@@ -393,5 +390,58 @@ fn is_told(alloc: Global, long: &Long) -> Result<bool, AllocError> {
 fn long_heads_are_told(rt: HostRuntime) {
     for long in &LONG {
         assert!(rt; matches!(is_told(rt.alloc(), long), Ok(true)), "{}", long.0);
+    }
+}
+
+/// Bodies where few octets may be kept: the name, how many are free, the length that is said or the chunks, the body, and the answer.
+type Kept = (
+    &'static str,
+    usize,
+    &'static str,
+    &'static str,
+    &'static str,
+);
+
+const TOO_MANY: &str =
+    "HTTP/1.1 503 Service Unavailable\r\n~retry-after: 1\r\nconnection: close\r\ncontent-length: 24\r\n\r\ntoo many bodies at once\n";
+
+const TAKEN: &str = "HTTP/1.1 200 OK\r\n~vary: origin\r\ncontent-length: 13\r\n\r\nBookings||abc";
+
+static KEPT: [Kept; 5] = [
+    ("just enough", 3, "Content-Length: 3", "abc", TAKEN),
+    ("one too few", 2, "Content-Length: 3", "abc", TOO_MANY),
+    ("none at all", 0, "Content-Length: 3", "abc", TOO_MANY),
+    (
+        "chunks, enough",
+        MAX_BODY,
+        "Transfer-Encoding: chunked",
+        "3\r\nabc\r\n0\r\n\r\n",
+        TAKEN,
+    ),
+    (
+        "chunks, one too few",
+        MAX_BODY - 1,
+        "Transfer-Encoding: chunked",
+        "3\r\nabc\r\n0\r\n\r\n",
+        TOO_MANY,
+    ),
+];
+
+/// Whether the client that sends such a body is answered so.
+fn is_kept(alloc: Global, kept: &Kept) -> Result<bool, AllocError> {
+    let head = "POST /bookings HTTP/1.1\r\nHost: localhost:8080\r\nContent-Type: text/csv\r\n";
+    let mut sent = Vec::new(alloc);
+    for part in [head, kept.2, "\r\n\r\n", kept.3] {
+        sent.extend_from_slice(part.as_bytes())?;
+    }
+    let got = exchange(alloc, &sent, 4096, kept.1)?;
+    let wanted = whole(alloc, kept.4)?;
+    Ok(got.as_slice() == wanted.as_slice())
+}
+
+#[test]
+fn bodies_are_kept_where_there_is_room(rt: HostRuntime) {
+    for kept in &KEPT {
+        assert!(rt; matches!(is_kept(rt.alloc(), kept), Ok(true)), "{}", kept.0);
     }
 }

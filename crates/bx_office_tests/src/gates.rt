@@ -523,12 +523,60 @@ type Body = (
 );
 
 static BODIES: [Body; 6] = [
-    ("twice", "GET", "/plan", true, false, true, Err(Refusal::Doubled)),
-    ("coded", "POST", "/bookings", false, true, true, Err(Refusal::Coded)),
-    ("no length", "POST", "/bookings", false, false, false, Err(Refusal::NoLength)),
-    ("coded, no length", "POST", "/bookings", false, true, false, Err(Refusal::Coded)),
-    ("a page, coded", "GET", "/plan", false, true, true, Ok(Route::Plan)),
-    ("a page, no length", "GET", "/plan", false, false, false, Ok(Route::Plan)),
+    (
+        "twice",
+        "GET",
+        "/plan",
+        true,
+        false,
+        true,
+        Err(Refusal::Doubled),
+    ),
+    (
+        "coded",
+        "POST",
+        "/bookings",
+        false,
+        true,
+        true,
+        Err(Refusal::Coded),
+    ),
+    (
+        "no length",
+        "POST",
+        "/bookings",
+        false,
+        false,
+        false,
+        Err(Refusal::NoLength),
+    ),
+    (
+        "coded, no length",
+        "POST",
+        "/bookings",
+        false,
+        true,
+        false,
+        Err(Refusal::Coded),
+    ),
+    (
+        "a page, coded",
+        "GET",
+        "/plan",
+        false,
+        true,
+        true,
+        Ok(Route::Plan),
+    ),
+    (
+        "a page, no length",
+        "GET",
+        "/plan",
+        false,
+        false,
+        false,
+        Ok(Route::Plan),
+    ),
 ];
 
 /// The request of such a case.

@@ -107,8 +107,6 @@ pub fn answer_of(
         | Route::Script
         | Route::Style
         | Route::Bookings
-        | Route::Office => {
-            of_kind(Kind::Text, Ok(Vec::new(alloc)))
-        }
+        | Route::Office => { of_kind(Kind::Text, Ok(Vec::new(alloc))) }
     }
 }

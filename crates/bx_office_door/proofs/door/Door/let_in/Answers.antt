@@ -1,4 +1,5 @@
 use Rattle.std.proofs.Common.{arith, rules, ◌≡◌, ◌+◌, ◌++◌, ◌∷◌, []}
+use Rattle.bx_office_door.proofs.KeptSums.{kept_came}
 use Rattle.bx_office_door.proofs.GivenNumbers.{came_more, came_given}
 use Rattle.bx_office_door.proofs.door.Door.let_in.Goals as goal
 
@@ -8,6 +9,7 @@ invariant_of-self-in-loop-guest c =
     let all : c.push.new.self.items ≡ c.loop-guest.self.guests.items ++ c.new-guest.result ∷ [] = search rules in
     record {
       few = omega arith;
+      kept = kept_came _ _ _ _ all c.new-guest.ensures.kept c.loop-guest.self.kept;
       given = came_given _ _ _ _ _ c.loop-guest.self.given all c.new-guest.ensures.number next;
     }
 
