@@ -401,7 +401,8 @@ impl Client {
 
     /// Answers the request that waits.
     pub fn answer(&mut self, reply: Reply<'_>)
-        ensures said { IsLeft self.new ⊎ (self.new.out.items ≡ self.old.out.items ++ reply_text self.old.server self.old.date self.old.is_head reply.entry false) }
+        ensures said { IsLeft self.new ⊎
+            (self.new.out.items ≡ self.old.out.items ++ reply_text self.old.server self.old.date self.old.is_head reply.entry false) }
         ensures next { IsAfterAnswer self.new.stage }
         ensures place { self.new.place ≡ self.old.place }
         ensures ended { self.new.has_ended ≡ self.old.has_ended }
@@ -412,7 +413,8 @@ impl Client {
 
     /// Answers, and reads nothing more. Where no request was read there is no answer.
     pub fn dismiss(&mut self, reply: Reply<'_>)
-        ensures said { IsLeft self.new ⊎ (self.new.out.items ≡ self.old.out.items ++ reply_text self.old.server self.old.date self.old.is_head reply.entry true) }
+        ensures said { IsLeft self.new ⊎
+            (self.new.out.items ≡ self.old.out.items ++ reply_text self.old.server self.old.date self.old.is_head reply.entry true) }
         ensures last { self.new.stage ≡ Stage.Last }
         ensures place { self.new.place ≡ self.old.place }
         ensures ended { self.new.has_ended ≡ self.old.has_ended }
@@ -423,7 +425,8 @@ impl Client {
 
     /// Writes an answer. After the last one nothing is read.
     fn send(&mut self, reply: Reply<'_>, is_last: bool)
-        ensures said { IsLeft self.new ⊎ (self.new.out.items ≡ self.old.out.items ++ reply_text self.old.server self.old.date self.old.is_head reply.entry is_last) }
+        ensures said { IsLeft self.new ⊎
+            (self.new.out.items ≡ self.old.out.items ++ reply_text self.old.server self.old.date self.old.is_head reply.entry is_last) }
         ensures next { IsAfterAnswer self.new.stage }
         ensures last { IsTrue is_last → self.new.stage ≡ Stage.Last }
         ensures place { self.new.place ≡ self.old.place }

@@ -22,8 +22,8 @@ is_over_since now is_full (Some since) g =
     && (nat_lt (patience_of g.is_spare (length g.client.body.items)) (now - since) || (is_full && nat_lt 2_000_000_000 (now - g.heard)))
 
 -- its time is over. One that waits for its answer has time
-abbrev pub is_late : ℕ → Bool → Guest → Bool
-is_late now is_full g = is_over_since now is_full g.since g
+abbrev pub is_out_of_time : ℕ → Bool → Guest → Bool
+is_out_of_time now is_full g = is_over_since now is_full g.since g
 
 -- ---- who came beyond the places
 

@@ -2,7 +2,7 @@
 
 ghost use Rattle.std.specs.Prelude.{◌≡◌, ◌≤◌, max, true, false, Some, length};
 ghost use Rattle.bx_office_door.specs.Guests.{IsGuestTold};
-ghost use Rattle.bx_office_door.specs.Patience.{patience_of, is_late, may_stand, is_watched};
+ghost use Rattle.bx_office_door.specs.Patience.{patience_of, is_out_of_time, may_stand, is_watched};
 
 use crate::stream::{Came, Stream};
 use bx_office::{Client, Place, Reply, Route, Stage, crowded, page, too_slow};
@@ -231,7 +231,7 @@ impl Guest {
 
     /// Whether its time is over, where others wait, or where none do. A request that waits for its answer has time.
     fn is_late(&self, now: u128, is_full: bool) -> bool
-        ensures { result ≡ is_late now is_full self.now }
+        ensures { result ≡ is_out_of_time now is_full self.now }
     {
         match self.since {
             Some(since) => {

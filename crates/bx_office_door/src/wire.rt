@@ -3,7 +3,7 @@
 ghost use Rattle.std.specs.Prelude.{◌≡◌, ◌≤◌, ◌∷◌, [], ℕ, List, Option, IfSome, length};
 ghost use Rattle.bx_line_world.specs.Wires.{WireAct, Waited, came_in};
 ghost use Rattle.bx_office_door.specs.Inside.{did_inside_more};
-ghost use Rattle.bx_office_door.specs.Sliced.{slice_of, DidInside};
+ghost use Rattle.bx_office_door.specs.Sliced.{slice_at_once, DidInside};
 
 use crate::door::Door;
 use bx_line_world::Wire;
@@ -16,7 +16,7 @@ const SLICE: u64 = 10_000_000;
 /// How long a frame is waited for at once. A system lengthens what it is given by some milliseconds, so the last two slices are one wait: it
 /// ends when a wait without a door would.
 fn slice_of(wait: u64) -> u64
-    ensures { result ≡ slice_of wait }
+    ensures { result ≡ slice_at_once wait }
 {
     if wait <= 2 * SLICE { wait } else { SLICE }
 }
