@@ -1,7 +1,7 @@
 -- What is done by inputs whose names are files, and standard input.
-use Rattle.std.proofs.Common.{◌≡◌, ◌≢◌, ◌↔◌, ℕ, List, Option, Some, Result, Ok, Err, codes, refl, subst}
+use Rattle.std.proofs.Common.{◌≡◌, ◌≢◌, ◌≤◌, ◌↔◌, ◌⊎◌, inl, inr, ℕ, Bool, true, false, List, Option, Some, Result, Ok, Err, codes, refl, subst, arith, if◌then◌else◌}
 use Rattle.std.proofs.lemmas.Bool.{false≢true}
-use Rattle.std.specs.Prelude.{IsOk, OnOk, IfErr}
+use Rattle.std.specs.Prelude.{IsOk, IsErr, OnOk, IfErr}
 use Rattle.bx_check_commands.specs.Inputs.{GivesOnce, GivesStandard}
 
 -- what a command promises at its status
@@ -30,3 +30,49 @@ module _ {X : Type 0} (remaining : X → Option (List ℕ)) (o : Option X) (x : 
   refused_by Q r status both why some =
       let (fault, cause) = refused_at r status both why some in
       (fault, standard (λ gives. Q gives fault) cause)
+
+-- ---- its statuses
+
+pub not_zero : (status : ℕ) → status ≡ 1 → status ≢ 0
+not_zero status one zero = absurd (omega (arith, one, zero))
+
+-- but for a live day it is 0 or 1
+pub few_at : {T E : Type 0} (r : Result T E) (status : ℕ) → (status ≡ 0) ↔ IsOk r → (IsErr r → status ≡ 1) → (status ≤ 1) ⊎ (status ≡ 3)
+few_at (Ok value) status (there, back) one = inl (let zero : status ≡ 0 = back refl in omega (arith, zero))
+few_at (Err fault) status is one = inl (let some : status ≡ 1 = one refl in omega (arith, some))
+
+pub never_three : {T E : Type 0} (r : Result T E) (status : ℕ) → (status ≡ 0) ↔ IsOk r → (IsErr r → status ≡ 1) → status ≡ 3 → ⊥
+never_three (Ok value) status (there, back) one three = (let zero : status ≡ 0 = back refl in absurd (omega (arith, zero, three)))
+never_three (Err fault) status is one three = (let some : status ≡ 1 = one refl in absurd (omega (arith, some, three)))
+
+-- of a live day, by whether the fault lasts
+module _ {T E : Type 0} (lasts : E → Bool) (status : ℕ) where
+  abbrev Tells : E → Type 0
+  Tells fault = status ≡ (if lasts fault then 3 else 1)
+
+  told : (fault : E) (b : Bool) → lasts fault ≡ b → Tells fault → status ≡ (if b then 3 else 1)
+  told fault b is tells = subst (λ (x : Bool). status ≡ (if x then 3 else 1)) is tells
+
+  pub live_few : (r : Result T E) → (status ≡ 0) ↔ IsOk r → IfErr r Tells → (status ≤ 1) ⊎ (status ≡ 3)
+  live_few (Ok value) (there, back) tells = inl (let zero : status ≡ 0 = back refl in omega (arith, zero))
+  live_few (Err fault) is tells = at (lasts fault) refl
+    where
+      at : (b : Bool) → lasts fault ≡ b → (status ≤ 1) ⊎ (status ≡ 3)
+      at true last = inr (told fault true last tells)
+      at false last = inl (let one : status ≡ 1 = told fault false last tells in omega (arith, one))
+
+  pub live_refused : {Q : E → Type 0} (r : Result T E) → (status ≡ 0) ↔ IsOk r → IfErr r Tells → IfErr r Q → status ≡ 1 → (fault : E) × Q fault × (lasts fault ≡ false)
+  live_refused (Ok value) (there, back) tells why one = (let zero : status ≡ 0 = back refl in absurd (omega (arith, zero, one)))
+  live_refused (Err fault) is tells why one = (fault, why, at (lasts fault) refl)
+    where
+      at : (b : Bool) → lasts fault ≡ b → lasts fault ≡ false
+      at true last = (let three : status ≡ 3 = told fault true last tells in absurd (omega (arith, three, one)))
+      at false last = last
+
+  pub live_for_good : {Q : E → Type 0} (r : Result T E) → (status ≡ 0) ↔ IsOk r → IfErr r Tells → IfErr r Q → status ≡ 3 → (fault : E) × Q fault × (lasts fault ≡ true)
+  live_for_good (Ok value) (there, back) tells why three = (let zero : status ≡ 0 = back refl in absurd (omega (arith, zero, three)))
+  live_for_good (Err fault) is tells why three = (fault, why, at (lasts fault) refl)
+    where
+      at : (b : Bool) → lasts fault ≡ b → lasts fault ≡ true
+      at true last = last
+      at false last = (let one : status ≡ 1 = told fault false last tells in absurd (omega (arith, one, three)))
