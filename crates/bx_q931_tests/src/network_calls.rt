@@ -146,7 +146,13 @@ type Reported = (
 );
 
 static REPORTED: [Reported; 11] = [
-    ("lacked", Rules::Three, &[FAR_STATUS_NULL], PRESENT, Some(112)),
+    (
+        "lacked",
+        Rules::Three,
+        &[FAR_STATUS_NULL],
+        PRESENT,
+        Some(112),
+    ),
     (
         "lacked, as of an enquiry before",
         Rules::Three,
@@ -307,12 +313,7 @@ fn goes_as_reported(
 }
 
 /// The first call state with which it does otherwise, of an Active call.
-fn first_odd_report(
-    call: &NetCall,
-    rules: Rules,
-    fitting: &[u8],
-    release: &[u8],
-) -> Option<u8> {
+fn first_odd_report(call: &NetCall, rules: Rules, fitting: &[u8], release: &[u8]) -> Option<u8> {
     for state in 0..64 {
         if !goes_as_reported(*call, state, rules, fitting, release) {
             return Some(state);
