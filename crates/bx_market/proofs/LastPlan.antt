@@ -5,7 +5,7 @@ use Rattle.bx_base.specs.Plans.{is_accepted, channel_at}
 use Rattle.bx_colour.specs.Colouring.{IsFirstFit}
 use Rattle.bx_day.specs.Day.{Day, opening}
 use Rattle.bx_day.specs.Outages.{live_happens, live_day_after}
-use Rattle.bx_events.specs.Events.{LiveEvent, OnLink, WithoutLink, Sold}
+use Rattle.bx_events.specs.Events.{LiveEvent, OnLink, WithoutLink, Sold, HeardByRulesTwo}
 use Rattle.bx_sales.specs.Journal.{sold_in, RunsThrough}
 use Rattle.bx_sales.proofs.Journal.{told_by, through_more}
 use Rattle.bx_planfile.specs.OneBooking.{row_on}
@@ -16,6 +16,7 @@ others [] = []
 others (Sold line ∷ events) = others events
 others (OnLink event ∷ events) = OnLink event ∷ others events
 others (WithoutLink ∷ events) = WithoutLink ∷ others events
+others (HeardByRulesTwo octets ∷ events) = HeardByRulesTwo octets ∷ others events
 
 others_day : (events more : List LiveEvent) (d : Day) → live_day_after (others events ++ more) d ≡ live_day_after (events ++ more) d
 others_day [] more d = refl
