@@ -77,7 +77,7 @@ pub fn is_whole<W>(file: &Option<Watched<W>>) -> bool
 }
 
 /// Writes the packet of a reply, where there is one.
-fn keep_reply<W: Write>(file: &mut Option<Watched<W>>, second: u32, reply: &Option<Octets>)
+pub fn keep_reply<W: Write>(file: &mut Option<Watched<W>>, second: u32, reply: &Option<Octets>)
     ensures { Keeps W.contents file.old file.new (flat_map (packet_sent second) (reply_messages reply.now)) }
 {
     if let Some(reply) = reply {
