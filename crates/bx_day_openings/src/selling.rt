@@ -70,6 +70,9 @@ impl Selling {
             }
             LoggedEvent::Down => self.exchange.second_without_link(),
             LoggedEvent::Sold(line) => self.take(line),
+            LoggedEvent::HeardByRulesTwo(octets) => {
+                let _reply = self.exchange.receive_by_rules_two(octets);
+            }
         }
     }
 }
