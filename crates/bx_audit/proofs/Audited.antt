@@ -1,5 +1,8 @@
 -- What a file has of the events that were followed, and what is told of it.
-use Rattle.std.proofs.Common.{◌≡◌, ℕ, Bool, true, is_some, List, [], ◌∷◌, ◌++◌, Option, Some, None, Result, Ok, Err, OnOk, refl, sym, ◌∙◌, subst}
+use Rattle.std.proofs.Common.{◌≡◌, ℕ, Bool, true, is_some, List, [], ◌∷◌, ◌++◌, Option, Some, None, Result, Ok, Err, OnOk, refl, sym, ap, ◌∙◌, ◌+◌, subst}
+use Rattle.std.specs.List.{flat_map}
+use Rattle.std.proofs.lemmas.List.{append-nil}
+use Rattle.arrayvec.specs.ArrayVec.{ArrayVec}
 use Rattle.bx_base.specs.PlanParts.{parts_of}
 use Rattle.bx_day_openings.specs.Followed.{IsFollowedWhole}
 use Rattle.bx_day_openings.specs.Tied.{IsTied}
@@ -14,9 +17,15 @@ use Rattle.bx_journal.specs.declared.fault.JournalFault.{JournalFault}
 use Rattle.bx_journal.specs.declared.fault.JournalFault.TheVariants.{NotBegun}
 use Rattle.bx_journal.specs.declared.head.Wanted.{Wanted}
 use Rattle.bx_audit.specs.Audits.{IsAudited, IsKeptSoFar}
-use Rattle.bx_events.specs.Events.{Event, LiveEvent, OnLink, WithoutLink, Sold}
-use Rattle.bx_capture.specs.Captures.{packets_for, Keeps, IsCaptured}
-use Rattle.bx_capture.specs.Keeping.{keeps_nil}
+use Rattle.bx_events.specs.Events.{Event, LiveEvent, OnLink, WithoutLink, Sold, HeardByRulesTwo}
+use Rattle.std.specs.Option.{option_map}
+use Rattle.bx_q931.specs.Outgoing.{Outgoing, out_octets}
+use Rattle.bx_calls.specs.Sending.{reply_list, spelled}
+use Rattle.bx_frames.specs.Courses.{reply_messages}
+use Rattle.bx_capture.specs.Captures.{packet_sent, packets_for, Keeps, IsCaptured}
+use Rattle.bx_capture.specs.Keeping.{keeps_nil, keeps_more}
+use Rattle.bx_capture.specs.Packets.{packet}
+use Rattle.bx_capture.specs.declared.packet.Direction.TheVariants.{Received}
 use Rattle.bx_day.specs.Day.{Day}
 use Rattle.bx_day.specs.Course.{exchange_next, exchange_sent}
 use Rattle.bx_day.specs.Outages.{live_happens}
@@ -34,6 +43,26 @@ pub captured_on_link : {W : Type 0} {contents : W → Option (List ℕ)} {first 
     → IsCaptured exchange_next (packets_for exchange_next exchange_sent (λ (x : Day). x.moment) (λ (x : Day). x.moment)) contents first first' file file' d d' (e ∷ []) → IsLiveCaptured contents first first' file file' d d' (OnLink e ∷ [])
 captured_on_link e p = record { day = p.day; stays = p.stays; kept = p.kept }
 
+-- what came to an exchange of the rules 2, and the reply
+pub same_reply : (o : Option (ArrayVec ℕ)) (r : Option Outgoing) → option_map (λ (x : ArrayVec ℕ). x.items) o ≡ option_map out_octets r → reply_messages o ≡ spelled (reply_list r)
+same_reply None None e = refl
+same_reply None (Some r) e = absurd cc
+same_reply (Some o) None e = absurd cc
+same_reply (Some o) (Some r) e =
+    let same : o.items ≡ out_octets r = cc in
+    ap (λ (l : List ℕ). record { items = l } ∷ []) same
+
+pub captured_by_two : {W : Type 0} (contents : W → Option (List ℕ)) (first : ℕ) (file file1 file2 : Option (Watched W)) (d d' : Day) (came : List ℕ) (at : ℕ) (replies : List (ArrayVec ℕ))
+    → at ≡ d.moment → replies ≡ spelled (live_happens d (HeardByRulesTwo came)).sent → d' ≡ (live_happens d (HeardByRulesTwo came)).day
+    → Keeps contents file file1 (packet (first + at) Received came) → Keeps contents file1 file2 (flat_map (packet_sent (first + at)) replies) → IsLiveCaptured contents first first file file2 d d' (HeardByRulesTwo came ∷ [])
+captured_by_two contents first file file1 file2 d d' came at replies moment sent day p q =
+    let text = live_packets_for first d (HeardByRulesTwo came) in
+    let same : packet (first + at) Received came ++ flat_map (packet_sent (first + at)) replies ≡ text ++ [] =
+    ap (λ (n : ℕ). packet (first + n) Received came ++ flat_map (packet_sent (first + n)) replies) moment
+    ∙ ap (λ (l : List (ArrayVec ℕ)). packet (first + d.moment) Received came ++ flat_map (packet_sent (first + d.moment)) l) sent
+    ∙ sym (append-nil text) in
+    record { day = day; stays = refl; kept = subst (Keeps contents file file2) same (keeps_more contents file file1 file2 (packet (first + at) Received came) (flat_map (packet_sent (first + at)) replies) p q) }
+
 module _ {W : Type 0} (contents : W → Option (List ℕ)) (cs cs' : List Bool) (s s' : Option SaleFault) (a b : Taken W) (same : cs' ≡ cs) where
   taken_as : (events : List LiveEvent) → s ≡ None → GoesFrom (IsTaken contents cs) (λ (t : Taken W). t.day) cs None a events b s' → IsRecaptured contents cs cs' s s' a events b
   taken_as events none goes = (same, subst (λ (x : Option SaleFault). GoesFrom (IsTaken contents cs) (λ (t : Taken W). t.day) cs x a events b s') (sym none) goes)
@@ -43,6 +72,10 @@ module _ {W : Type 0} (contents : W → Option (List ℕ)) (cs cs' : List Bool) 
 
   pub on_link : (e : Event) → s ≡ None → s' ≡ s → IsLiveCaptured contents a.first b.first a.file b.file a.day b.day (OnLink e ∷ []) → IsRecaptured contents cs cs' s s' a (OnLink e ∷ []) b
   on_link e none still p = went (OnLink e ∷ []) none still (record { stays = p.stays; octets = live_packets_for a.first a.day (OnLink e) ++ []; through = ([], refl, (p.day, refl)); kept = p.kept })
+
+  pub by_rules_two : (came : List ℕ) → s ≡ None → s' ≡ s → IsLiveCaptured contents a.first b.first a.file b.file a.day b.day (HeardByRulesTwo came ∷ []) → IsRecaptured contents cs cs' s s' a (HeardByRulesTwo came ∷ []) b
+  by_rules_two came none still p =
+      went (HeardByRulesTwo came ∷ []) none still (record { stays = p.stays; octets = live_packets_for a.first a.day (HeardByRulesTwo came) ++ []; through = ([], refl, (p.day, refl)); kept = p.kept })
 
   pub without_link : s ≡ None → s' ≡ s → b.day ≡ (live_happens a.day WithoutLink).day → b.file ≡ a.file → b.first ≡ a.first → IsRecaptured contents cs cs' s s' a (WithoutLink ∷ []) b
   without_link none still day file first = went (WithoutLink ∷ []) none still (record { stays = first; octets = []; through = (day, refl); kept = subst (λ (f : Option (Watched W)). Keeps contents a.file f []) (sym file) (keeps_nil contents a.file) })
@@ -68,6 +101,7 @@ pub through_of : (channels : List Bool) (first : ℕ) (events : List LiveEvent) 
 through_of channels first [] d d1 octets h = h.0
 through_of channels first (Sold line ∷ events) d d1 octets (sold, is, rest) = (sold, is, through_of channels first events sold d1 octets rest)
 through_of channels first (OnLink event ∷ events) d d1 octets (more, are, rest) = through_of channels first events (live_happens d (OnLink event)).day d1 more rest
+through_of channels first (HeardByRulesTwo came ∷ events) d d1 octets (more, are, rest) = through_of channels first events (live_happens d (HeardByRulesTwo came)).day d1 more rest
 through_of channels first (WithoutLink ∷ events) d d1 octets rest = through_of channels first events (live_happens d WithoutLink).day d1 octets rest
 
 -- from the day and the file as they were at the beginning

@@ -1,6 +1,6 @@
 -- A day that was always on its link.
 use Rattle.std.proofs.Common.{◌≡◌, ℕ, Bool, List, [], ◌∷◌, ◌++◌, map, refl, ap, ◌∙◌}
-use Rattle.bx_events.specs.Events.{Event, LiveEvent, OnLink, WithoutLink, Sold}
+use Rattle.bx_events.specs.Events.{Event, LiveEvent, OnLink, WithoutLink, Sold, HeardByRulesTwo}
 use Rattle.bx_capture.specs.Captures.{packets_for}
 use Rattle.bx_day.specs.Day.{Day}
 use Rattle.bx_day.specs.Course.{exchange_next, exchange_sent}
@@ -33,4 +33,7 @@ unsold_day channels first (Sold line ∷ events) d d1 octets none h = absurd cc
 unsold_day channels first (OnLink event ∷ events) d d1 octets none (more, are, rest) =
     let later = unsold_day channels first events (live_happens d (OnLink event)).day d1 more none rest in
     (later.0, are ∙ more_packets (live_packets_for first d (OnLink event)) (live_packets first events (live_happens d (OnLink event)).day) more later.1)
+unsold_day channels first (HeardByRulesTwo came ∷ events) d d1 octets none (more, are, rest) =
+    let later = unsold_day channels first events (live_happens d (HeardByRulesTwo came)).day d1 more none rest in
+    (later.0, are ∙ more_packets (live_packets_for first d (HeardByRulesTwo came)) (live_packets first events (live_happens d (HeardByRulesTwo came)).day) more later.1)
 unsold_day channels first (WithoutLink ∷ events) d d1 octets none rest = unsold_day channels first events (live_happens d WithoutLink).day d1 octets none rest

@@ -1,6 +1,6 @@
 -- Private: events and sales one after another, with what was captured of them.
 use Rattle.std.proofs.Common.{ℕ, Bool, List, [], ◌∷◌, ◌++◌, refl, sym, ap, ◌∙◌, subst, append_assoc, Option}
-use Rattle.bx_events.specs.Events.{LiveEvent, OnLink, WithoutLink, Sold}
+use Rattle.bx_events.specs.Events.{LiveEvent, OnLink, WithoutLink, Sold, HeardByRulesTwo}
 use Rattle.bx_capture.specs.Keeping.{keeps_nil, keeps_more}
 use Rattle.bx_day.specs.Day.{Day}
 use Rattle.bx_day.specs.Outages.{live_happens}
@@ -16,6 +16,8 @@ captures_more channels first [] ys a b c os ps (same, none) more = subst (λ (l 
 captures_more channels first (Sold line ∷ xs) ys a b c os ps (sold, is, rest) more = (sold, is, captures_more channels first xs ys sold b c os ps rest more)
 captures_more channels first (OnLink event ∷ xs) ys a b c os ps (later, are, rest) more =
     (later ++ ps, ap (λ (l : List ℕ). l ++ ps) are ∙ append_assoc (live_packets_for first a (OnLink event)) later ps, captures_more channels first xs ys (live_happens a (OnLink event)).day b c later ps rest more)
+captures_more channels first (HeardByRulesTwo came ∷ xs) ys a b c os ps (later, are, rest) more =
+    (later ++ ps, ap (λ (l : List ℕ). l ++ ps) are ∙ append_assoc (live_packets_for first a (HeardByRulesTwo came)) later ps, captures_more channels first xs ys (live_happens a (HeardByRulesTwo came)).day b c later ps rest more)
 captures_more channels first (WithoutLink ∷ xs) ys a b c os ps rest more = captures_more channels first xs ys (live_happens a WithoutLink).day b c os ps rest more
 
 module _ {W : Type 0} (contents : W → Option (List ℕ)) where

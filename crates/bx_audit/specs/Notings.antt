@@ -1,6 +1,6 @@
 -- Private: outages while they are noted.
 use Rattle.std.specs.Prelude.{◌≡◌, ℕ, true, List, [], ◌∷◌}
-use Rattle.bx_events.specs.Events.{Tick, Receive, LiveEvent, OnLink, WithoutLink, Sold}
+use Rattle.bx_events.specs.Events.{Tick, Receive, LiveEvent, OnLink, WithoutLink, Sold, HeardByRulesTwo}
 use Rattle.bx_audit.specs.Noted.{next_moment, outages_from, noted_at}
 use Rattle.bx_audit.specs.declared.noting.Noting.{Noting}
 
@@ -11,6 +11,7 @@ moment_after m (OnLink Tick ∷ events) = moment_after (next_moment m) events
 moment_after m (OnLink (Receive octets) ∷ events) = moment_after m events
 moment_after m (WithoutLink ∷ events) = moment_after (next_moment m) events
 moment_after m (Sold line ∷ events) = moment_after m events
+moment_after m (HeardByRulesTwo octets ∷ events) = moment_after m events
 
 -- none yet, at moment 0
 pub record IsFresh (x : Noting) : Type 0 where

@@ -2,11 +2,11 @@
 
 ghost use Rattle.std.specs.Prelude.{◌≡◌, ◌∷◌, [], None};
 ghost use Rattle.bx_audit.specs.Followed.{IsCapturedLive, HasRecaptured};
-ghost use Rattle.bx_events.specs.Events.{OnLink, Tick, Receive, Sold};
+ghost use Rattle.bx_events.specs.Events.{OnLink, Tick, Receive, Sold, HeardByRulesTwo};
 ghost use Rattle.bx_journal.specs.Events.{logged_event};
 
 use bx_base::ChannelSet;
-use bx_capture::Captured;
+use bx_capture::{Captured, Direction, keep, keep_reply};
 use bx_day::Exchange;
 use bx_day_openings::{SaleFault, resell};
 use bx_frames::End;
@@ -42,6 +42,16 @@ fn hear_one<W: Write>(captured: &mut Captured<Exchange, W>, octets: &Octets)
     let _reply = captured.hear(octets);
 }
 
+/// What came to an exchange of the rules 2.
+fn hear_by_rules_two<W: Write>(captured: &mut Captured<Exchange, W>, octets: &Octets)
+    ensures { IsCapturedLive W.contents captured.old (HeardByRulesTwo octets.now.items ∷ []) captured.new }
+{
+    let second = captured.first + captured.end.turn();
+    keep(&mut captured.file, second, Direction::Received, octets);
+    let reply = captured.end.receive_by_rules_two(octets);
+    keep_reply(&mut captured.file, second, &reply);
+}
+
 impl<W: Write> Recaptured<W> {
     /// Sells again what a line says was sold, where nothing was wrong yet.
     fn take(&mut self, line: &[u8])
@@ -61,6 +71,7 @@ impl<W: Write> Recaptured<W> {
             LoggedEvent::Heard(octets) => hear_one(&mut self.captured, octets),
             LoggedEvent::Down => self.captured.end.second_without_link(),
             LoggedEvent::Sold(line) => self.take(line),
+            LoggedEvent::HeardByRulesTwo(octets) => hear_by_rules_two(&mut self.captured, octets),
         }
     }
 }

@@ -59,7 +59,7 @@ impl Noting {
                 self.note();
                 self.pass();
             }
-            LoggedEvent::Heard(_) | LoggedEvent::Sold(_) => {}
+            LoggedEvent::Heard(_) | LoggedEvent::Sold(_) | LoggedEvent::HeardByRulesTwo(_) => {}
         }
     }
 
