@@ -2,7 +2,7 @@
 use Rattle.std.proofs.Common.{◌≡◌, ℕ, Bool, true, false, List, [], ◌∷◌, Option, Some, None, Result, Ok, Err, refl, sym, subst, ap, is_some, ◌∙◌}
 use Rattle.bx_base.specs.Bookings.{Row}
 use Rattle.bx_day.specs.Day.{Day}
-use Rattle.bx_events.specs.Events.{Sold, OnLink, WithoutLink}
+use Rattle.bx_events.specs.Events.{Sold, OnLink, WithoutLink, HeardByRulesTwo}
 use Rattle.bx_line_world.proofs.Apart.{starts_apart, lost_before}
 use Rattle.bx_line_world.proofs.Never.{never_ends}
 use Rattle.bx_line_world.specs.Days.{GoesByLine}
@@ -69,6 +69,7 @@ module _ (channels : List Bool) where
   fails_at (Filing shown d batch sold) (Logged (Sold line) false) to goes = (d, goes)
   fails_at (Filing shown d batch sold) (Logged (OnLink event) done) to goes = absurd goes
   fails_at (Filing shown d batch sold) (Logged WithoutLink done) to goes = absurd goes
+  fails_at (Filing shown d batch sold) (Logged (HeardByRulesTwo octets) done) to goes = absurd goes
   fails_at (Filing shown d batch sold) (Synced false) to goes = (d, goes)
   fails_at (Telling shown d batch sold) (Logged event false) to goes = absurd goes
   fails_at (Telling shown d batch sold) (Synced false) to goes = absurd goes
