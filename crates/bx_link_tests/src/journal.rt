@@ -27,7 +27,7 @@ pub struct Journal {
     pub room: u32,
 }
 
-/// The mark of an event. None has more octets than a message.
+/// The mark of an event. None has more octets than a message, and none came by the rules 2.
 fn mark_of(event: LiveEvent<'_>) -> Option<Mark>
     ensures { IfSome result (λ mark. event_in mark ≡ live_event_of event.entry) }
 {
@@ -38,6 +38,7 @@ fn mark_of(event: LiveEvent<'_>) -> Option<Mark>
             Ok(line) => Some(Mark::Bought(line)),
             Err(_) => None,
         },
+        LiveEvent::HeardByRulesTwo(_) => None,
         LiveEvent::OnLink(Event::Receive(octets)) => match ArrayVec::try_from(octets) {
             Ok(octets) => Some(Mark::Heard(octets)),
             Err(_) => None,
