@@ -153,7 +153,7 @@ static WRONG: [Case; 20] = [
 
 /// The head of the journal of a live day of the plan in `one.txt`.
 const HEAD: &str =
-    "bx-journal 2 rules 2\nplan 2115e49ff6c2d6cbbe45cbc298589d645d156451f70f44ccb653b62c10c98e95\nday live 1577836800 1\n";
+    "bx-journal 2 rules 3\nplan 2115e49ff6c2d6cbbe45cbc298589d645d156451f70f44ccb653b62c10c98e95\nday live 1577836800 1\n";
 
 /// Whether the journal of this name has the head, and after it this text and so many seconds without a link.
 fn holds(

@@ -9,65 +9,78 @@ use std::alloc::{AllocError, Global};
 use std::fs;
 use std::test::Fail;
 
-/// A plan of another hand, which is proved and not first fit; and journals of it and of the plan in `two.txt`.
-static FILES: [(&str, &str); 13] = [
+/// A plan of another hand, which is proved and not first fit; and journals of it and of the plan in `two.txt`, two of them by the rules 2.
+static FILES: [(&str, &str); 16] = [
     (
         "hand.txt",
         "bx-plan 3\nchannels 1 2\nbookings 1\n0 60 5 1234 2 free out\nprices 0\ntotal 5\nend\n",
     ),
     (
         "sold.journal",
+        "bx-journal 2 rules 3\nplan 7c35ee9492f27e9c9fec6d438270c41290c5bc10066cef31da15ea69a39e4bae\nday live 1577836800 1\ntick\nheard 0802800107\nsold 30 50 6 5678 - free out\nsold 60 90 2 99 - must out\ntick\ntick\ntick\ntick\ntick\ntick\ntick\ntick\ntick\ntick\ntick\ntick\ntick\ntick\ntick\ntick\ntick\ntick\ntick\ntick\ntick\ntick\ntick\ntick\ntick\ntick\ntick\ntick\ntick\nheard 0802800407\n",
+    ),
+    (
+        "older.journal",
         "bx-journal 2 rules 2\nplan 7c35ee9492f27e9c9fec6d438270c41290c5bc10066cef31da15ea69a39e4bae\nday live 1577836800 1\ntick\nheard 0802800107\nsold 30 50 6 5678 - free out\nsold 60 90 2 99 - must out\ntick\ntick\ntick\ntick\ntick\ntick\ntick\ntick\ntick\ntick\ntick\ntick\ntick\ntick\ntick\ntick\ntick\ntick\ntick\ntick\ntick\ntick\ntick\ntick\ntick\ntick\ntick\ntick\ntick\nheard 0802800407\n",
+    ),
+    (
+        "lacked.journal",
+        "bx-journal 2 rules 3\nplan 7c35ee9492f27e9c9fec6d438270c41290c5bc10066cef31da15ea69a39e4bae\nday live 1577836800 1\ntick\ndown\ntick\nheard 080280015A080280D1\ntick\nheard 0802800107\ntick\n",
+    ),
+    (
+        "lacked_older.journal",
+        "bx-journal 2 rules 2\nplan 7c35ee9492f27e9c9fec6d438270c41290c5bc10066cef31da15ea69a39e4bae\nday live 1577836800 1\ntick\ndown\ntick\nheard 080280015A080280D1\ntick\nheard 0802800107\ntick\n",
     ),
     ("front.journal", PREFIX),
     (
         "unsold.journal",
-        "bx-journal 2 rules 2\nplan 7c35ee9492f27e9c9fec6d438270c41290c5bc10066cef31da15ea69a39e4bae\nday live 1577836800 1\ntick\n",
+        "bx-journal 2 rules 3\nplan 7c35ee9492f27e9c9fec6d438270c41290c5bc10066cef31da15ea69a39e4bae\nday live 1577836800 1\ntick\n",
     ),
     (
         "bad.journal",
-        "bx-journal 2 rules 2\nplan 7c35ee9492f27e9c9fec6d438270c41290c5bc10066cef31da15ea69a39e4bae\nday live 1577836800 1\ntick\nsold nonsense\nbroken\n",
+        "bx-journal 2 rules 3\nplan 7c35ee9492f27e9c9fec6d438270c41290c5bc10066cef31da15ea69a39e4bae\nday live 1577836800 1\ntick\nsold nonsense\nbroken\n",
     ),
     (
         "given.journal",
-        "bx-journal 2 rules 2\nplan 7c35ee9492f27e9c9fec6d438270c41290c5bc10066cef31da15ea69a39e4bae\nday live 1577836800 1\nsold 30 50 6 5678 2 free out\n",
+        "bx-journal 2 rules 3\nplan 7c35ee9492f27e9c9fec6d438270c41290c5bc10066cef31da15ea69a39e4bae\nday live 1577836800 1\nsold 30 50 6 5678 2 free out\n",
     ),
     (
         "broken.journal",
-        "bx-journal 2 rules 2\nplan 7c35ee9492f27e9c9fec6d438270c41290c5bc10066cef31da15ea69a39e4bae\nday live 1577836800 1\ntick\nbroken\nsold nonsense\n",
+        "bx-journal 2 rules 3\nplan 7c35ee9492f27e9c9fec6d438270c41290c5bc10066cef31da15ea69a39e4bae\nday live 1577836800 1\ntick\nbroken\nsold nonsense\n",
     ),
     (
         "late.journal",
-        "bx-journal 2 rules 2\nplan 7c35ee9492f27e9c9fec6d438270c41290c5bc10066cef31da15ea69a39e4bae\nday live 1577836800 1\ntick\nsold 1 60 7 5678 - free out\n",
+        "bx-journal 2 rules 3\nplan 7c35ee9492f27e9c9fec6d438270c41290c5bc10066cef31da15ea69a39e4bae\nday live 1577836800 1\ntick\nsold 1 60 7 5678 - free out\n",
     ),
     (
         "full.journal",
-        "bx-journal 2 rules 2\nplan 7c35ee9492f27e9c9fec6d438270c41290c5bc10066cef31da15ea69a39e4bae\nday live 1577836800 1\ntick\nsold 19 21 7 5678 - free out\n",
+        "bx-journal 2 rules 3\nplan 7c35ee9492f27e9c9fec6d438270c41290c5bc10066cef31da15ea69a39e4bae\nday live 1577836800 1\ntick\nsold 19 21 7 5678 - free out\n",
     ),
     (
         "hand.journal",
-        "bx-journal 2 rules 2\nplan 0ff099e32eb798fba570fdff4d9ec7fe7ce093238c3b5f4a4285f72034822534\nday live 1577836800 1\ntick\nsold 60 90 7 5678 - free out\n",
+        "bx-journal 2 rules 3\nplan 0ff099e32eb798fba570fdff4d9ec7fe7ce093238c3b5f4a4285f72034822534\nday live 1577836800 1\ntick\nsold 60 90 7 5678 - free out\n",
     ),
     (
         "outage.journal",
-        "bx-journal 2 rules 2\nplan 7c35ee9492f27e9c9fec6d438270c41290c5bc10066cef31da15ea69a39e4bae\nday live 1577836800 1\ntick\nheard 0802800107\ntick\ndown\ndown\ndown\ntick\ntick\ndown\n",
+        "bx-journal 2 rules 3\nplan 7c35ee9492f27e9c9fec6d438270c41290c5bc10066cef31da15ea69a39e4bae\nday live 1577836800 1\ntick\nheard 0802800107\ntick\ndown\ndown\ndown\ntick\ntick\ndown\n",
     ),
     (
         "empty.journal",
-        "bx-journal 2 rules 2\nplan f1c4bdbd2170909011bcbfb1e2a2796df8052fa76528b23fbd4c6ad235334272\nday live 1577836800 1\ntick\n",
+        "bx-journal 2 rules 3\nplan f1c4bdbd2170909011bcbfb1e2a2796df8052fa76528b23fbd4c6ad235334272\nday live 1577836800 1\ntick\n",
     ),
     ("same.journal", SAME),
 ];
 
 /// The journal in `front.journal`, and that in `same.journal`.
 const PREFIX: &str =
-    "bx-journal 2 rules 2\nplan 7c35ee9492f27e9c9fec6d438270c41290c5bc10066cef31da15ea69a39e4bae\nday live 1577836800 1\ndown\nsold 30 50 6 5678 - free out\nsold 60 90 2 99 - must out\n";
+    "bx-journal 2 rules 3\nplan 7c35ee9492f27e9c9fec6d438270c41290c5bc10066cef31da15ea69a39e4bae\nday live 1577836800 1\ndown\nsold 30 50 6 5678 - free out\nsold 60 90 2 99 - must out\n";
 
 const SAME: &str =
-    "bx-journal 2 rules 2\nplan 0ff099e32eb798fba570fdff4d9ec7fe7ce093238c3b5f4a4285f72034822534\nday live 1577836800 1\ntick\n";
+    "bx-journal 2 rules 3\nplan 0ff099e32eb798fba570fdff4d9ec7fe7ce093238c3b5f4a4285f72034822534\nday live 1577836800 1\ntick\n";
 
-/// What the journals tell of their days.
-static CASES: [Case; 21] = [
+/// What the journals tell of their days: of one by the rules 2 the same as of one by the rules 3, where these hear all alike, and where the
+/// far end lacks a call it is asked for, what each of them makes of it.
+static CASES: [Case; 25] = [
     (
         "audit @two.txt @sold.journal",
         Prints("1 live\n2 missed\n3 refused\n4 live\n5 waiting\nmaintenance none\n"),
@@ -87,6 +100,24 @@ static CASES: [Case; 21] = [
     (
         "audit @two.txt @sold.journal --capture @sold.pcap",
         Prints("1 live\n2 missed\n3 refused\n4 live\n5 waiting\nmaintenance none\n"),
+    ),
+    (
+        "audit @two.txt @older.journal --capture @older.pcap",
+        Prints("1 live\n2 missed\n3 refused\n4 live\n5 waiting\nmaintenance none\n"),
+    ),
+    (
+        "records @two.txt @older.journal --quiet",
+        Prints(
+            "row,direction,number,channel,start,end,pay,outcome,from,until,seconds\n1,out,1234,1,0,60,5,live,1,,\n2,in,1234,2,10,20,4,missed,,,\n3,out,77,,15,20,1,refused,,,\n4,out,5678,2,30,50,6,live,30,,\n5,out,99,1,60,90,2,waiting,,,\n",
+        ),
+    ),
+    (
+        "audit @two.txt @lacked.journal",
+        Prints("1 live\n2 waiting\n3 refused\nmaintenance none\n"),
+    ),
+    (
+        "audit @two.txt @lacked_older.journal",
+        Prints("1 unanswered\n2 waiting\n3 refused\nmaintenance none\n"),
     ),
     (
         "sold @two.txt @unsold.journal",
@@ -128,7 +159,7 @@ static CASES: [Case; 21] = [
 ];
 
 /// A day that goes on after what was sold, until its last booking is over; and days that do not go on.
-static LIVE: [Case; 7] = [
+static LIVE: [Case; 8] = [
     (
         "serve @two.txt --live --line 19809:19810 --date 2020-01-01 --journal @front.journal",
         Prints("1 missed\n2 missed\n3 refused\n4 missed\n5 missed\nmaintenance none\n"),
@@ -150,6 +181,10 @@ static LIVE: [Case; 7] = [
     (
         "serve @two.txt --live --line 19809:19810 --date 2020-01-01 --journal @late.journal",
         Fails("bx: J10 LateSale\n"),
+    ),
+    (
+        "serve @two.txt --live --line 19809:19810 --date 2020-01-01 --journal @older.journal",
+        Fails("bx: J8 OtherRules\n"),
     ),
     (
         "serve @hand.txt --live --line 19809:19810 --date 2020-01-01 --journal @same.journal",
