@@ -5,6 +5,8 @@ use Rattle.http1.specs.declared.framing.Framing.{Framing}
 use Rattle.http1.specs.Message.{AcceptsRequest}
 use Rattle.bx_office.specs.Targets.{query_in}
 use Rattle.bx_office.specs.Heads.{IsVerdict}
+use Rattle.bx_office.specs.Replies.{reply_text}
+use Rattle.bx_office.specs.declared.reply.Reply.{Reply}
 use Rattle.bx_office.specs.declared.client.Client.{Client}
 use Rattle.bx_office.specs.declared.client.Stage.{Stage}
 use Rattle.bx_office.specs.declared.client.Stage.TheVariants.{Head, Body, Asked, Last}
@@ -75,6 +77,10 @@ pub record AreOctetsTaken (octets : List ℕ) (old new : Client) : Type 0 where
   pub query : new.query ≡ old.query
   pub body : new.body ≡ old.body
   pub out : new.out ≡ old.out
+
+-- this was answered, as the last or not; or the client was given up
+abbrev pub IsReplySaid : Reply → Bool → Client → Client → Type 0
+IsReplySaid reply is_last old new = IsLeft new ⊎ (new.out.items ≡ old.out.items ++ reply_text old.server old.date old.is_head reply is_last)
 
 -- after an answer the next head is due, or nothing more is read
 abbrev pub IsAfterAnswer : Stage → Type 0

@@ -64,9 +64,9 @@ page_policy = codes "default-src 'none'; script-src 'self'; style-src 'self'; im
 abbrev pub picture_policy : List ℕ
 picture_policy = codes "default-src 'none'; style-src 'sha256-M/jgx+JukTEih3X3OsOlDO/XRUPJp63hsSRE2E/jUv4=' 'sha256-HKscL3gRVMMmN6Wrq5ISygC6aNvyh6qLUrjz3SceGcQ='; base-uri 'none'; form-action 'none'; frame-ancestors 'none'"
 
-abbrev pub content_policy_of : Kind → List ℕ
-content_policy_of Kinds.Picture = picture_policy
-content_policy_of _ = page_policy
+abbrev pub reply_policy : Kind → List ℕ
+reply_policy Kinds.Picture = picture_policy
+reply_policy _ = page_policy
 
 abbrev pub allowed_of : Allowed → Header
 allowed_of Methods.Unsaid = (codes "vary", codes "origin")
@@ -83,7 +83,7 @@ advice_of _ allowed = allowed_of allowed
 
 abbrev pub header_fields_of : HttpDate → Reply → Bool → List Header
 header_fields_of date reply is_last = (codes "date", date_text date) ∷ (codes "content-type", type_of reply.kind) ∷ (codes "cache-control", codes "no-store") ∷ (codes "x-content-type-options", codes "nosniff")
-    ∷ (codes "cross-origin-resource-policy", codes "same-origin") ∷ (codes "content-security-policy", content_policy_of reply.kind) ∷ advice_of reply.status reply.allowed
+    ∷ (codes "cross-origin-resource-policy", codes "same-origin") ∷ (codes "content-security-policy", reply_policy reply.kind) ∷ advice_of reply.status reply.allowed
     ∷ (if is_last then (codes "connection", codes "close") ∷ [] else [])
 
 -- the head of an answer, and the connection after it

@@ -66,8 +66,7 @@ impl Client {
     ghost use Rattle.bx_office.specs.Targets.{query_in};
     ghost use Rattle.httparse.specs.Spans.{IsRequestWithin};
     ghost use Rattle.bx_office.specs.Inside.{IsUndue, HasAsked, IsBodyBegun, HasKept, IsBodyDue, IsHeadTaken};
-    ghost use Rattle.bx_office.specs.Clients.{IsDueAfter, IsLeft, AreOctetsTaken, IsAfterAnswer, is_over, is_between, is_reading, room_to_read};
-    ghost use Rattle.bx_office.specs.Replies.{reply_text};
+    ghost use Rattle.bx_office.specs.Clients.{IsDueAfter, IsLeft, IsReplySaid, AreOctetsTaken, IsAfterAnswer, is_over, is_between, is_reading, room_to_read};
 
     /// A client that has sent nothing yet. Takes no memory.
     pub fn new(alloc: Global, place: Place) -> Client
@@ -401,8 +400,7 @@ impl Client {
 
     /// Answers the request that waits.
     pub fn answer(&mut self, reply: Reply<'_>)
-        ensures said { IsLeft self.new ⊎
-            (self.new.out.items ≡ self.old.out.items ++ reply_text self.old.server self.old.date self.old.is_head reply.entry false) }
+        ensures said { IsReplySaid reply.entry false self.old self.new }
         ensures next { IsAfterAnswer self.new.stage }
         ensures place { self.new.place ≡ self.old.place }
         ensures ended { self.new.has_ended ≡ self.old.has_ended }
@@ -413,8 +411,7 @@ impl Client {
 
     /// Answers, and reads nothing more. Where no request was read there is no answer.
     pub fn dismiss(&mut self, reply: Reply<'_>)
-        ensures said { IsLeft self.new ⊎
-            (self.new.out.items ≡ self.old.out.items ++ reply_text self.old.server self.old.date self.old.is_head reply.entry true) }
+        ensures said { IsReplySaid reply.entry true self.old self.new }
         ensures last { self.new.stage ≡ Stage.Last }
         ensures place { self.new.place ≡ self.old.place }
         ensures ended { self.new.has_ended ≡ self.old.has_ended }
@@ -425,8 +422,7 @@ impl Client {
 
     /// Writes an answer. After the last one nothing is read.
     fn send(&mut self, reply: Reply<'_>, is_last: bool)
-        ensures said { IsLeft self.new ⊎
-            (self.new.out.items ≡ self.old.out.items ++ reply_text self.old.server self.old.date self.old.is_head reply.entry is_last) }
+        ensures said { IsReplySaid reply.entry is_last self.old self.new }
         ensures next { IsAfterAnswer self.new.stage }
         ensures last { IsTrue is_last → self.new.stage ≡ Stage.Last }
         ensures place { self.new.place ≡ self.old.place }

@@ -3,7 +3,7 @@
 ghost use Rattle.std.specs.Prelude.{◌≡◌, ◌++◌, ◌/◌, min, OnOk, codes};
 ghost use Rattle.http1.specs.Head.{header_parts};
 ghost use Rattle.httpdate.specs.Date.{date_text, unix_secs};
-ghost use Rattle.bx_office.specs.Replies.{code_of, reason_phrase_of, type_of, content_policy_of, allowed_of, advice_of, head_text, after_head, body_text, after_body, reply_text};
+ghost use Rattle.bx_office.specs.Replies.{code_of, reason_phrase_of, type_of, reply_policy, allowed_of, advice_of, head_text, after_head, body_text, after_body, reply_text};
 ghost use Rattle.bx_office.specs.Inside.{after_reply};
 
 use bytes::BytesMut;
@@ -184,7 +184,7 @@ fn date_field(date: &[u8; 29]) -> Header<'_>
 
 /// What kinds of answers may load.
 fn policy_of(kind: Kind) -> &'static str
-    ensures { result.now ≡ content_policy_of kind }
+    ensures { result.now ≡ reply_policy kind }
 {
     match kind {
         Kind::Picture => PICTURE_POLICY,

@@ -1,8 +1,7 @@
 -- Who stands at the door: clients with their numbers, in their order.
 use Rattle.std.specs.Prelude.{◌≡◌, ◌⊎◌, ℕ, ◌+◌, ◌-◌, ◌==◌, ◌&&◌, ◌||◌, nat_le, not, if◌then◌else◌, Bool, true, false, List, [], ◌∷◌, ◌++◌, map, Option, Some, None}
 use Rattle.std.specs.List.{range_with_len}
-use Rattle.bx_office.specs.Clients.{IsLeft, IsAfterAnswer}
-use Rattle.bx_office.specs.Replies.{reply_text}
+use Rattle.bx_office.specs.Clients.{IsReplySaid, IsAfterAnswer}
 use Rattle.bx_office.specs.declared.client.Client.{Client}
 use Rattle.bx_office.specs.declared.client.Stage.{Stage}
 use Rattle.bx_office.specs.declared.client.Stage.TheVariants.{Asked}
@@ -35,7 +34,7 @@ client_of number (g ∷ more) = if g.number == number then Some g.client else cl
 
 -- what an answer makes of a client
 pub record IsReplied (reply : Reply) (old new : Client) : Type 0 where
-  pub said : IsLeft new ⊎ (new.out.items ≡ old.out.items ++ reply_text old.server old.date old.is_head reply false)
+  pub said : IsReplySaid reply false old new
   pub next : IsAfterAnswer new.stage
   pub place : new.place ≡ old.place
   pub kept : new.kept ≡ 0
