@@ -1,5 +1,6 @@
 """What the scripts need of the two ends of a day: the peers' programs, ports, plans, and the messages of a capture."""
 import datetime
+import http.client
 import os
 import shutil
 import socket
@@ -11,6 +12,19 @@ import time
 
 TOP = os.path.dirname(os.path.dirname(os.path.abspath(__file__)))
 BX = f"{TOP}/crates/bx/out/bx"
+
+
+class AtSocket(http.client.HTTPConnection):
+    """A connection to a socket of the file system."""
+
+    def __init__(self, path):
+        super().__init__("localhost", timeout=10)
+        self.path = path
+
+    def connect(self):
+        self.sock = socket.socket(socket.AF_UNIX, socket.SOCK_STREAM)
+        self.sock.settimeout(self.timeout)
+        self.sock.connect(self.path)
 
 
 class Standstills(threading.Thread):
@@ -65,6 +79,16 @@ def free_ports(count):
     return ports
 
 
+def free_tcp_port():
+    with socket.socket() as one:
+        one.bind(("127.0.0.1", 0))
+        return one.getsockname()[1]
+
+
+def bx(*words, text=None):
+    return subprocess.run([BX, *words], input=text, capture_output=True, text=True)
+
+
 def time_of(second):
     return f"2026-01-05T{second // 3600:02}:{second // 60 % 60:02}:{second % 60:02}Z"
 
@@ -82,6 +106,11 @@ def write_plan(rows, path, *words):
 def midnight_in(seconds):
     """An instant of whole seconds so far from now at least, in seconds since 1970."""
     return int(time.time() + seconds) + 1
+
+
+def time_on(midnight, second):
+    """A second of the day that begins at an instant, as a field of bookings has it."""
+    return f"{datetime.datetime.fromtimestamp(midnight + second, datetime.timezone.utc):%Y-%m-%dT%H:%M:%SZ}"
 
 
 def day_words(midnight, pace, turns):
