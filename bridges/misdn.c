@@ -46,13 +46,13 @@ static int open_channel(int number) {
     return channel < 0 || bind(channel, (struct sockaddr *)&device, sizeof device) || send(channel, &message, sizeof message.head, 0) < 0;
 }
 
-// Frames alone go to the line; what else layer 1 tells goes to standard error.
+// Frames alone go to the line; what else layer 1 tells goes to standard error, but for what the kernel gives back: each request of this program.
 static void to_line(int length) {
     if (message.head.prim == PH_DATA_IND) {
         unsigned check = check_sequence(message.octets, length);
         message.octets[length] = check & 0xFF, message.octets[length + 1] = check >> 8 & 0xFF;
         (void)!send(line, message.octets, (size_t)length + 2, 0);
-    } else if (message.head.prim != PH_DATA_CNF)
+    } else if (message.head.prim != PH_DATA_CNF && message.head.prim != PH_DATA_REQ && message.head.prim != PH_ACTIVATE_REQ)
         fprintf(stderr, "bx-misdn: primitive %04x\n", message.head.prim);
 }
 
