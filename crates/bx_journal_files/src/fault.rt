@@ -40,7 +40,7 @@ impl<'a> LiveFault<'a> {
     /// sold on, the journal is no file or none of this plan, this day and these rules, or the day has no more seconds. Whoever starts
     /// the exchange again and again need not do so.
     pub fn does_last(self) -> bool
-        ensures { result ≡ does_last self }
+        ensures { result ≡ does_last self.entry }
     {
         match self {
             LiveFault::Day(fault) => does_opening_last(fault),
@@ -52,7 +52,7 @@ impl<'a> LiveFault<'a> {
 
 /// The same of a fault of the day's opening.
 fn does_opening_last(fault: DayCommandFault<'_>) -> bool
-    ensures { result ≡ does_opening_last fault }
+    ensures { result ≡ does_opening_last fault.entry }
 {
     match fault {
         DayCommandFault::Command(fault) => does_command_last(fault),
@@ -69,7 +69,7 @@ fn does_opening_last(fault: DayCommandFault<'_>) -> bool
 
 /// The same of what is wrong with the plan's file.
 fn does_command_last(fault: CommandFault<'_>) -> bool
-    ensures { result ≡ does_command_last fault }
+    ensures { result ≡ does_command_last fault.entry }
 {
     matches!(fault, CommandFault::Plan(_) | CommandFault::Check(_))
 }
