@@ -258,8 +258,8 @@ fn live_status<E: Write>(
     asked: Asked<'_>,
     errors: &mut Watched<E>,
 ) -> u8
-    ensures done { (result ≡ 0) ↔ IsOk done }
-    ensures refused { IfErr done (λ fault. result ≡ (if does_last fault then 3 else 1)) }
+    ensures done { (result ≡ 0) ↔ IsOk done.entry }
+    ensures refused { IfErr done.entry (λ fault. result ≡ (if does_last fault then 3 else 1)) }
 {
     let Err(fault) = done else {
         return 0;
