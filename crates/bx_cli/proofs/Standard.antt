@@ -46,14 +46,14 @@ never_three (Ok value) status (there, back) one three = (let zero : status ≡ 0
 never_three (Err fault) status is one three = (let some : status ≡ 1 = one refl in absurd (omega (arith, some, three)))
 
 -- of a live day, by whether the fault lasts
-module _ {T E : Type 0} (lasts : E → Bool) (status : ℕ) where
+module _ {E : Type 0} (lasts : E → Bool) (status : ℕ) where
   abbrev Tells : E → Type 0
   Tells fault = status ≡ (if lasts fault then 3 else 1)
 
   told : (fault : E) (b : Bool) → lasts fault ≡ b → Tells fault → status ≡ (if b then 3 else 1)
   told fault b is tells = subst (λ (x : Bool). status ≡ (if x then 3 else 1)) is tells
 
-  pub live_few : (r : Result T E) → (status ≡ 0) ↔ IsOk r → IfErr r Tells → (status ≤ 1) ⊎ (status ≡ 3)
+  pub live_few : {T : Type 0} (r : Result T E) → (status ≡ 0) ↔ IsOk r → IfErr r Tells → (status ≤ 1) ⊎ (status ≡ 3)
   live_few (Ok value) (there, back) tells = inl (let zero : status ≡ 0 = back refl in omega (arith, zero))
   live_few (Err fault) is tells = at (lasts fault) refl
     where
@@ -61,7 +61,7 @@ module _ {T E : Type 0} (lasts : E → Bool) (status : ℕ) where
       at true last = inr (told fault true last tells)
       at false last = inl (let one : status ≡ 1 = told fault false last tells in omega (arith, one))
 
-  pub live_refused : {Q : E → Type 0} (r : Result T E) → (status ≡ 0) ↔ IsOk r → IfErr r Tells → IfErr r Q → status ≡ 1 → (fault : E) × Q fault × (lasts fault ≡ false)
+  pub live_refused : {T : Type 0} {Q : E → Type 0} (r : Result T E) → (status ≡ 0) ↔ IsOk r → IfErr r Tells → IfErr r Q → status ≡ 1 → (fault : E) × Q fault × (lasts fault ≡ false)
   live_refused (Ok value) (there, back) tells why one = (let zero : status ≡ 0 = back refl in absurd (omega (arith, zero, one)))
   live_refused (Err fault) is tells why one = (fault, why, at (lasts fault) refl)
     where
@@ -69,10 +69,15 @@ module _ {T E : Type 0} (lasts : E → Bool) (status : ℕ) where
       at true last = (let three : status ≡ 3 = told fault true last tells in absurd (omega (arith, three, one)))
       at false last = last
 
-  pub live_for_good : {Q : E → Type 0} (r : Result T E) → (status ≡ 0) ↔ IsOk r → IfErr r Tells → IfErr r Q → status ≡ 3 → (fault : E) × Q fault × (lasts fault ≡ true)
+  pub live_for_good : {T : Type 0} {Q : E → Type 0} (r : Result T E) → (status ≡ 0) ↔ IsOk r → IfErr r Tells → IfErr r Q → status ≡ 3 → (fault : E) × Q fault × (lasts fault ≡ true)
   live_for_good (Ok value) (there, back) tells why three = (let zero : status ≡ 0 = back refl in absurd (omega (arith, zero, three)))
   live_for_good (Err fault) is tells why three = (fault, why, at (lasts fault) refl)
     where
       at : (b : Bool) → lasts fault ≡ b → lasts fault ≡ true
       at true last = last
       at false last = (let one : status ≡ 1 = told fault false last tells in absurd (omega (arith, one, three)))
+
+-- of files that meet, by whether they are a live day's
+pub live_at_three : (b : Bool) (status : ℕ) → status ≡ (if b then 3 else 1) → status ≡ 3 → b ≡ true
+live_at_three true status is three = refl
+live_at_three false status is three = (let one : status ≡ 1 = is in absurd (omega (arith, one, three)))

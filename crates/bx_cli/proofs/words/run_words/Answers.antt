@@ -1,5 +1,6 @@
-use Rattle.std.proofs.Common.{arith}
+use Rattle.std.proofs.Common.{inr, refl}
+use Rattle.bx_cli.proofs.Standard.{live_at_three}
 use Rattle.bx_cli.proofs.words.run_words.Goals as goal
 
-pub returns-in-Err-Wrong-clause-status : goal.returns-in-Err-Wrong-clause-status
-returns-in-Err-Wrong-clause-status g c = omega arith
+pub returns-in-Some-clause-for_good : goal.returns-in-Some-clause-for_good
+returns-in-Some-clause-for_good g c three = inr (c.in-Ok.request, c.in-Some.name.now, c.in-Some.ensures.met, live_at_three _ _ c.files_met.ensures three, refl)
