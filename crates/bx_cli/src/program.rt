@@ -72,7 +72,7 @@ fn stand_ins(rt: &HostRuntime) -> [Option<File>; 3] {
 
 /// Runs the program on its words, and answers its status, as `main_words` has it.
 pub fn run_program(rt: &HostRuntime) -> u8
-    ensures { result ≤ 2 }
+    ensures { result ≤ 3 }
 {
     let _held = stand_ins(rt);
     let words = match env::args(rt) {
