@@ -475,7 +475,7 @@ static REPORTED: [Worked; 9] = [
         is_broken: false,
     },
     Worked {
-        name: "an inward call whose CONNECT may be on its way goes on",
+        name: "an inward call whose CONNECT may be on its way, or lost, gets it again",
         bookings: &[(0, 60, 1, true)],
         steps: &[
             Step::Linked(1, &[], &[]),
@@ -483,7 +483,11 @@ static REPORTED: [Worked; 9] = [
             Step::Linked(2, &[], &[CONNECT_REFERENCE_7]),
             Step::Without(20),
             Step::Linked(21, &[], &[STATUS_ENQUIRY_REFERENCE_7]),
-            Step::Linked(21, FAR_STATUS_PROCEEDING_REFERENCE_7, &[]),
+            Step::Linked(
+                21,
+                FAR_STATUS_PROCEEDING_REFERENCE_7,
+                &[CONNECT_REFERENCE_7],
+            ),
             Step::Linked(60, &[], &[DISCONNECT_16_REFERENCE_7]),
         ],
         outcomes: &[Outcome::Live],

@@ -234,18 +234,33 @@ impl Booked {
         asked && heard.kind == 0x7D && other
     }
 
-    /// Whether this tells of a call that is offered and asked for that it is up, or about to be.
-    fn is_answered(&self, heard: &Heard<'_>) -> bool {
-        self.offer() == Offer::Asked && heard.kind == 0x7D && matches!(heard.state(), Some(8 | 10))
+    /// Whether this refuses a call that was offered after seconds without a link, for now.
+    fn is_put_off(&self, heard: &Heard<'_>) -> bool {
+        self.offer() != Offer::Plain
+            && heard.kind == 0x5A
+            && matches!(heard.cause(), Some(41 | 42 | 44 | 47 | 102))
     }
 
-    /// Whether this refuses a call that was offered after seconds without a link, for now, or tells that it is not there.
-    fn is_put_off(&self, heard: &Heard<'_>) -> bool {
+    /// Whether this tells that a call which is asked for, is to be asked for or was put off is not there.
+    fn is_lacked(&self, heard: &Heard<'_>) -> bool {
         match (self.offer(), heard.kind) {
-            (Offer::Plain, _) => false,
-            (_, 0x5A) => matches!(heard.cause(), Some(41 | 42 | 44 | 47 | 102)),
-            (Offer::Asked, 0x7D) => heard.state() == Some(0),
+            (Offer::Plain | Offer::Anew, _) => false,
+            (_, 0x5A) => heard.cause() == Some(81),
+            (_, 0x7D) => heard.state() == Some(0),
             _ => false,
+        }
+    }
+
+    /// The state and the timer of a call that is asked for where this tells that it is answered, or that its phone rings.
+    fn reported(&self, heard: &Heard<'_>) -> Option<(u8, u32)> {
+        if self.offer() != Offer::Asked || heard.kind != 0x7D {
+            return None;
+        }
+        match heard.state() {
+            Some(8 | 10) => Some((10, 0)),
+            Some(9) => Some((9, 10)),
+            Some(7) => Some((7, 180)),
+            _ => None,
         }
     }
 
@@ -254,14 +269,15 @@ impl Booked {
             self.goes_to(reference, 19, 4, now);
             return;
         }
-        if self.is_answered(heard) {
-            self.goes_to(reference, 10, 0, now);
+        if let Some((state, left)) = self.reported(heard) {
+            self.goes_to(reference, state, left, now);
             return;
         }
         if let Course::Live(live) = self.course
-            && self.is_put_off(heard)
+            && (self.is_put_off(heard) || self.is_lacked(heard))
         {
-            self.is_offered(live, Offer::PutOff, 1);
+            let stays = live.offer == Offer::PutOff && self.is_lacked(heard);
+            self.is_offered(live, Offer::PutOff, if stays { live.left } else { 1 });
             return;
         }
         let call = Call {
