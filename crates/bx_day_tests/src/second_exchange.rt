@@ -276,8 +276,7 @@ impl Booked {
         if let Course::Live(live) = self.course
             && (self.is_put_off(heard) || self.is_lacked(heard))
         {
-            let stays = live.offer == Offer::PutOff && self.is_lacked(heard);
-            self.is_offered(live, Offer::PutOff, if stays { live.left } else { 1 });
+            self.is_offered(live, Offer::PutOff, 1);
             return;
         }
         let call = Call {
