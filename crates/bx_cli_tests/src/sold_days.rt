@@ -3,7 +3,7 @@
 use crate::file_commands::{Case, first_wrong};
 use crate::files::{folder, parted, placed};
 use crate::live_days::ends_with;
-use crate::program::Answer::{Fails, Misused, Prints};
+use crate::program::Answer::{Fails, FailsForGood, Misused, Prints};
 use crate::program::run;
 use std::alloc::{AllocError, Global};
 use std::fs;
@@ -176,23 +176,23 @@ static LIVE: [Case; 8] = [
     ),
     (
         "serve @two.txt --live --line 19809:19810 --date 2020-01-01 --journal @bad.journal",
-        Fails("bx: J9 BadSale\n"),
+        FailsForGood("bx: J9 BadSale\n"),
     ),
     (
         "serve @two.txt --live --line 19809:19810 --date 2020-01-01 --journal @late.journal",
-        Fails("bx: J10 LateSale\n"),
+        FailsForGood("bx: J10 LateSale\n"),
     ),
     (
         "serve @two.txt --live --line 19809:19810 --date 2020-01-01 --journal @older.journal",
-        Fails("bx: J8 OtherRules\n"),
+        FailsForGood("bx: J8 OtherRules\n"),
     ),
     (
         "serve @hand.txt --live --line 19809:19810 --date 2020-01-01 --journal @same.journal",
-        Fails("bx: D1 NotFirstFit\n"),
+        FailsForGood("bx: D1 NotFirstFit\n"),
     ),
     (
         "serve @hand.txt --live --line 19809:19810 --date 2020-01-01",
-        Fails("bx: D1 NotFirstFit\n"),
+        FailsForGood("bx: D1 NotFirstFit\n"),
     ),
 ];
 
@@ -208,7 +208,7 @@ static OFFICES: [Case; 11] = [
     ),
     (
         "serve @two.txt --live --line 19811:19812 --date 2020-01-01 --journal @late.journal --turns 130 --office @office.sock",
-        Fails("bx: J10 LateSale\n"),
+        FailsForGood("bx: J10 LateSale\n"),
     ),
     (
         "serve @two.txt --live --line 19811:19812 --date 2020-01-01 --journal @new.journal --office @gone/office.sock",
@@ -220,7 +220,7 @@ static OFFICES: [Case; 11] = [
     ),
     (
         "serve @hand.txt --live --line 19811:19812 --date 2020-01-01 --journal @new.journal --office @office.sock",
-        Fails("bx: D1 NotFirstFit\n"),
+        FailsForGood("bx: D1 NotFirstFit\n"),
     ),
     (
         "serve @two.txt --live --line 19811:19812 --date 2020-01-01 --office @office.sock",
