@@ -2,11 +2,11 @@
 // HDLC is one datagram; what HDLC does with it, the frame check sequence, is done here, and nothing of Q.921. Tests alone run it;
 // no part of `bx` is linked to it.
 //
-//     line HERE:THERE MIDNIGHT PACE SECONDS POLICY [offer M NUMBER CHANNEL]...
+//     line HERE:THERE MIDNIGHT PACE SECONDS POLICY [offer M NUMBER CHANNEL | reset M CHANNEL]...
 //
 // HERE and THERE are UDP ports on 127.0.0.1, this end's and the other's. MIDNIGHT is when the day begins, in seconds since 1970;
 // PACE is how many of its seconds one of the clock has; it is over after SECONDS, or once SIGTERM came. The timers of libpri run by the clock, whatever
-// the pace. POLICY and `offer` are those of rehearsal.c. It prints what it counted, and how often the data link came up and went.
+// the pace. POLICY, `offer` and `reset` are those of rehearsal.c. It prints what it counted, and how often the data link came up and went.
 
 #include "calls.h"
 #include <arpa/inet.h>

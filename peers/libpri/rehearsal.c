@@ -1,10 +1,10 @@
 // A user side that others wrote, at the far end of a rehearsal: Q.931 call control by libpri behind the frames of the link, whose
 // data link this program stands in for. Tests alone run it; no part of `bx` is linked to it.
 //
-//     rehearsal PORT POLICY [offer M NUMBER CHANNEL]...
+//     rehearsal PORT POLICY [offer M NUMBER CHANNEL | reset M CHANNEL]...
 //
 // POLICY is what it does with a SETUP: `answer` (CONNECT), `ring` (ALERTING, CONNECT 3 s later), `clear` (CONNECT, DISCONNECT 5 s
-// later), `busy` (cause 17) or `silent`. `offer` calls at second M. It ends with status 0 where the exchange says that the day is
+// later), `busy` (cause 17) or `silent`. `offer` calls at second M; `reset` restarts a channel (RESTART). It ends with status 0 where the exchange says that the day is
 // over, and prints what it counted.
 
 #include "calls.h"

@@ -3,7 +3,7 @@
 use crate::exchange::Exchange;
 use arrayvec::ArrayVec;
 use bx_frames::{Course, End};
-use bx_q931::Octets;
+use bx_q931::{Octets, acknowledge_restart};
 
 impl Course for Exchange {
     ghost use Rattle.bx_day.specs.Course.{exchange_next, exchange_sent, exchange_text};
@@ -25,7 +25,8 @@ impl End<Exchange> for Exchange {
     ghost kept = { λ d events d'. Unit {0} };
 
     fn hear(&mut self, message: &Octets) -> Option<Octets> {
-        self.receive(message)
+        let reply = self.receive(message);
+        acknowledge_restart(message).or(reply)
     }
 
     fn next_second(&mut self) -> ArrayVec<Octets, 30> {

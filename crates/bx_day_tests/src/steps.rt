@@ -9,7 +9,8 @@ pub(crate) type Messages = &'static [&'static [u8]];
 /// A moment, what comes (nothing: ticks to that moment, all silent but the last) and the messages that are sent.
 pub(crate) type Step = (u32, &'static [u8], Messages);
 
-fn is_same(reply: Option<Octets>, expected: &[&[u8]]) -> bool {
+/// Whether the reply is this message, or none.
+pub(crate) fn is_same(reply: Option<Octets>, expected: &[&[u8]]) -> bool {
     match reply {
         Some(octets) => are_same(&[octets], expected),
         None => expected.is_empty(),

@@ -1,7 +1,9 @@
-//! Octets that are no message, and messages of calls that are not known: what the exchange answers.
+//! Octets that are no message, messages of calls that are not known, and restarts: what the exchange answers.
 
-use crate::steps::{Messages, answers};
+use crate::steps::{Messages, answers, is_same};
 use bx_day::{Exchange, Outcome};
+use bx_frames::End;
+use bx_q931::Octets;
 use bx_worked_days::exchange_of;
 use std::alloc::Global;
 
@@ -88,5 +90,52 @@ fn first_wrong(alloc: Global, is_inward: bool) -> Option<&'static str> {
 fn strangers_are_answered(rt: HostRuntime) {
     for is_inward in [false, true] {
         assert_eq!(rt; first_wrong(rt.alloc(), is_inward), None);
+    }
+}
+
+/// What an end of the link sends for a RESTART, while a call is up on channel 1.
+static RESTARTS: [Receipt; 3] = [
+    (
+        "channel 1",
+        &[
+            0x08, 0x02, 0x00, 0x00, 0x46, 0x18, 0x03, 0xA9, 0x83, 0x81, 0x79, 0x01, 0x80,
+        ],
+        &[&[
+            0x08, 0x02, 0x80, 0x00, 0x4E, 0x18, 0x03, 0xA9, 0x83, 0x81, 0x79, 0x01, 0x80,
+        ]],
+    ),
+    (
+        "all interfaces",
+        &[0x08, 0x02, 0x00, 0x00, 0x46, 0x79, 0x01, 0x87],
+        &[&[0x08, 0x02, 0x80, 0x00, 0x4E, 0x79, 0x01, 0x87]],
+    ),
+    (
+        "a class that is none",
+        &[0x08, 0x02, 0x00, 0x00, 0x46, 0x79, 0x01, 0x81],
+        &[],
+    ),
+];
+
+/// Hears a restart as an end of the link, and answers whether just this is sent and the call is as it was.
+fn is_acknowledged(exchange: &mut Exchange, restart: &Receipt) -> bool {
+    let mut message = Octets::new();
+    if message.try_extend_from_slice(restart.1).is_err() {
+        return false;
+    }
+    let before = exchange.outcome(1);
+    is_same(End::hear(exchange, &message), restart.2) && exchange.outcome(1) == before
+}
+
+#[test]
+fn restarts_are_acknowledged(rt: HostRuntime) {
+    let exchange = exchange_of(rt.alloc(), &[(0, 60, 1, false)]);
+    assert!(rt; exchange.is_some(), "no exchange");
+    if let Some(mut exchange) = exchange {
+        let _setup = exchange.tick();
+        let connect = [0x08, 0x02, 0x80, 0x01, 0x07];
+        assert!(rt; exchange.receive(&connect).is_some(), "the call is up");
+        for restart in &RESTARTS {
+            assert!(rt; is_acknowledged(&mut exchange, restart), "{}", restart.0);
+        }
     }
 }

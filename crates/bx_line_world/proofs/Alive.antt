@@ -17,7 +17,9 @@ use Rattle.bx_live.specs.Acts.{Act, Began}
 use Rattle.bx_live.specs.Chains.{Chain, chain_first}
 use Rattle.bx_live.specs.Schedules.{instant_of_second}
 use Rattle.bx_line_world.specs.Wires.{WireAct}
-use Rattle.bx_line_world.specs.Posts.{not_asked, is_anew, is_stray, erred, put, told_to, all_told_to, begun_by, is_lost}
+use Rattle.bx_q931.specs.Restarts.{restarts_interface}
+use Rattle.bx_frames.specs.declared.turn.TheConstants.{MAX_MESSAGES}
+use Rattle.bx_line_world.specs.Posts.{not_asked, is_anew, is_stray, erred, put, told_to, all_told_to, begun_by, is_lost, delivered_to, reset}
 use Rattle.bx_line_world.specs.Lines.{LineEvent, Asked, Given, Elapsed, Enquired, Heard, Passed, Quiet, Serves, step_of, time_at}
 use Rattle.bx_line_world.specs.Serving.{IsWait, is_idle}
 use Rattle.bx_line_world.specs.Seeing.{is_seen, is_to_ask, is_on_the_second, asked_anew, AsksEnd, Looked, Sees}
@@ -117,12 +119,19 @@ put_asked : (b : Bool) (p : Post) (m : ArrayVec ℕ) → (put b p m).asked ≡ t
 put_asked true p m h = h
 put_asked false p m h = h
 
+delivered_asked : (restarts : Bool) (p : Post) (m : ArrayVec ℕ) → (delivered_to restarts p m).asked ≡ true → p.asked ≡ true
+delivered_asked restarts p m h = at (restarts && p.here) (nat_lt (length p.messages.items) MAX_MESSAGES) h
+  where
+    at : (b room : Bool) → (reset b (put room p m)).asked ≡ true → p.asked ≡ true
+    at true room h = put_asked room p m h
+    at false room h = put_asked room p m h
+
 erred_asked : (stray anew : Bool) (p : Post) → (erred stray anew p).asked ≡ true → p.asked ≡ true
 erred_asked true anew p h = h
 erred_asked false anew p h = absurd (false≢true h)
 
 told_asked : (p : Post) (told : Indication) → (told_to p told).asked ≡ true → p.asked ≡ true
-told_asked p (Delivered m) h = put_asked _ p m h
+told_asked p (Delivered m) h = delivered_asked (restarts_interface m.items) p m h
 told_asked p (LinkError code) h = erred_asked (is_stray code) (is_anew code) p h
 told_asked p told h = absurd (false≢true h)
 

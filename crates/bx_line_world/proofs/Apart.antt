@@ -1,5 +1,5 @@
 -- A line that has lost something tells the day, whatever is served before: so the next second that is not late has no link.
-use Rattle.std.proofs.Common.{◌≡◌, ℕ, zero, suc, ◌≤◌, arith, Bool, false, true, true≢false, not, ◌&&◌, List, [], ◌∷◌, refl, sym, ap, ◌∙◌, subst}
+use Rattle.std.proofs.Common.{◌≡◌, ℕ, zero, suc, ◌≤◌, arith, Bool, false, true, true≢false, not, ◌&&◌, List, [], ◌∷◌, refl, sym, ap, ◌∙◌, subst, nat_lt, length}
 use Rattle.arrayvec.specs.ArrayVec.{ArrayVec}
 use Rattle.bx_lapd.specs.declared.indication.Indication.{Indication}
 use Rattle.bx_lapd.specs.declared.indication.Indication.TheVariants.{Delivered, LinkError}
@@ -7,7 +7,9 @@ use Rattle.bx_live.specs.declared.world.Begin.TheVariants.{Joined}
 use Rattle.bx_live.specs.Acts.{Act, Began}
 use Rattle.bx_live.specs.Chains.{Chain, chain_first}
 use Rattle.bx_line_world.specs.Wires.{WireAct}
-use Rattle.bx_line_world.specs.Posts.{is_anew, is_stray, erred, is_lost, post_from, reset, put, told_to, all_told_to}
+use Rattle.bx_q931.specs.Restarts.{restarts_interface}
+use Rattle.bx_frames.specs.declared.turn.TheConstants.{MAX_MESSAGES}
+use Rattle.bx_line_world.specs.Posts.{is_anew, is_stray, erred, is_lost, post_from, reset, put, told_to, all_told_to, delivered_to}
 use Rattle.bx_line_world.specs.Lines.{LineEvent, Elapsed, Serves, step_of}
 use Rattle.bx_line_world.specs.Serving.{Slice, Served, AsksLink}
 use Rattle.bx_line_world.specs.Seeing.{is_seen, is_to_ask, is_on_the_second, asked_anew, AsksEnd, Looked, Sees}
@@ -25,12 +27,17 @@ reset_lost : (b : Bool) (p : Post) → is_lost p.lost ≡ true → is_lost (rese
 reset_lost true p h = refl
 reset_lost false p h = h
 
+delivered_lost : (restarts : Bool) (p : Post) (m : ArrayVec ℕ) → is_lost p.lost ≡ true → is_lost (delivered_to restarts p m).lost ≡ true
+delivered_lost restarts p m h =
+    let room = nat_lt (length p.messages.items) MAX_MESSAGES in
+    reset_lost (restarts && p.here) (put room p m) (put_lost room p m h)
+
 erred_lost : (stray anew : Bool) (p : Post) → is_lost p.lost ≡ true → is_lost (erred stray anew p).lost ≡ true
 erred_lost true anew p h = h
 erred_lost false anew p h = reset_lost (anew && p.here) p h
 
 told_lost : (p : Post) (told : Indication) → is_lost p.lost ≡ true → is_lost (told_to p told).lost ≡ true
-told_lost p (Delivered m) h = put_lost _ p m h
+told_lost p (Delivered m) h = delivered_lost (restarts_interface m.items) p m h
 told_lost p (LinkError code) h = erred_lost (is_stray code) (is_anew code) p h
 told_lost p told h = reset_lost p.here p h
 

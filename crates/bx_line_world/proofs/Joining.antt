@@ -1,5 +1,5 @@
 -- The acts of a day joined into one list of events of its link.
-use Rattle.std.proofs.Common.{◌≡◌, inl, inr, ℕ, zero, suc, Bool, true, false, ◌&&◌, List, [], ◌∷◌, ◌++◌, refl, sym, ap, ◌∙◌, subst, Option, Some, None, Result, Ok, Err}
+use Rattle.std.proofs.Common.{◌≡◌, inl, inr, ℕ, zero, suc, Bool, true, false, ◌&&◌, List, [], ◌∷◌, ◌++◌, refl, sym, ap, ◌∙◌, subst, Option, Some, None, Result, Ok, Err, nat_lt, length}
 use Rattle.std.proofs.lemmas.List.{append-nil, append_assoc}
 use Rattle.arrayvec.specs.ArrayVec.{ArrayVec}
 use Rattle.bx_frames.specs.declared.fault.LinkFault.{LinkFault}
@@ -18,7 +18,9 @@ use Rattle.bx_live.specs.declared.world.Loss.TheVariants as losses
 use Rattle.bx_live.specs.Chains.{Chain, chain_first}
 use Rattle.bx_live.specs.Schedules.{instant_of_second}
 use Rattle.bx_line_world.specs.Wires.{WireAct}
-use Rattle.bx_line_world.specs.Posts.{with_messages, not_asked, is_anew, is_stray, erred, reset, put, told_to, all_told_to, begun_by, dropped_by}
+use Rattle.bx_q931.specs.Restarts.{restarts_interface}
+use Rattle.bx_frames.specs.declared.turn.TheConstants.{MAX_MESSAGES}
+use Rattle.bx_line_world.specs.Posts.{with_messages, not_asked, is_anew, is_stray, erred, reset, put, told_to, all_told_to, begun_by, dropped_by, delivered_to}
 use Rattle.bx_line_world.specs.Lines.{LineEvent, Asked, Given, Elapsed, Enquired, Quiet, Serves, wire_acts_of, step_of, passed_after, shown_by}
 use Rattle.bx_line_world.specs.Serving.{IsWait, Slice, Served, Polls, AsksLink, GivesMessage, is_idle}
 use Rattle.bx_line_world.specs.Seeing.{is_to_ask, is_on_the_second, asked_anew, AsksEnd, Looked, Sees}
@@ -79,8 +81,15 @@ erred_part : (stray anew : Bool) (p : Post) → IsPartOf (erred stray anew p).me
 erred_part true anew p = part_more p.messages.items []
 erred_part false anew p = reset_part (anew && p.here) p []
 
+delivered_part : (restarts : Bool) (p : Post) (m : ArrayVec ℕ) → IsPartOf (delivered_to restarts p m).messages.items (p.messages.items ++ m ∷ [])
+delivered_part restarts p m = at (restarts && p.here) (nat_lt (length p.messages.items) MAX_MESSAGES)
+  where
+    at : (b room : Bool) → IsPartOf (reset b (put room p m)).messages.items (p.messages.items ++ m ∷ [])
+    at true room = put_part room p m
+    at false room = put_part room p m
+
 told_one : (p : Post) (told : Indication) → IsPartOf (told_to p told).messages.items (p.messages.items ++ messages_of (told ∷ []))
-told_one p (Delivered m) = put_part _ p m
+told_one p (Delivered m) = delivered_part (restarts_interface m.items) p m
 told_one p (LinkError code) = erred_part (is_stray code) (is_anew code) p
 told_one p told = reset_part p.here p _
 

@@ -4,6 +4,7 @@ use Rattle.arrayvec.specs.ArrayVec.{ArrayVec}
 use Rattle.bx_frames.specs.declared.fault.LinkFault.{LinkFault}
 use Rattle.bx_frames.specs.declared.fault.LinkFault.TheVariants.{LinkReset, MoreThan64Messages}
 use Rattle.bx_frames.specs.declared.turn.TheConstants.{MAX_MESSAGES}
+use Rattle.bx_q931.specs.Restarts.{restarts_interface}
 use Rattle.bx_lapd.specs.declared.indication.Indication.{Indication}
 use Rattle.bx_lapd.specs.declared.indication.Indication.TheVariants.{LinkEstablished, LinkReleased, Delivered, LinkError}
 use Rattle.bx_lapd.specs.declared.words.ErrorCode.{ErrorCode}
@@ -57,10 +58,15 @@ abbrev pub put : Bool → Post → ArrayVec ℕ → Post
 put true p m = with_messages p (p.messages.items ++ m ∷ [])
 put false p m = record p { lost = Some MoreThan64Messages }
 
+-- a message was delivered. By a RESTART of a whole interface the other end says that it has no call any more: the day is told as of a reset,
+-- so that it asks for each call
+abbrev pub delivered_to : Bool → Post → ArrayVec ℕ → Post
+delivered_to restarts p m = reset (restarts && p.here) (put (nat_lt (length p.messages.items) MAX_MESSAGES) p m)
+
 -- The link has told this. All but a message, and an answer that nobody waits for, says that the link is another than before, or may be: who
 -- was asked over the old one has to be asked again
 abbrev pub told_to : Post → Indication → Post
-told_to p (Delivered m) = put (nat_lt (length p.messages.items) MAX_MESSAGES) p m
+told_to p (Delivered m) = delivered_to (restarts_interface m.items) p m
 told_to p LinkEstablished = not_asked (reset p.here p)
 told_to p LinkReleased = not_asked (reset p.here p)
 told_to p (LinkError code) = erred (is_stray code) (is_anew code) p

@@ -1,8 +1,9 @@
 //! What a link has told, and the day has not heard.
 
-ghost use Rattle.std.specs.Prelude.{◌≡◌};
+ghost use Rattle.std.specs.Prelude.{◌≡◌, nat_lt, length};
+ghost use Rattle.bx_frames.specs.declared.turn.TheConstants.{MAX_MESSAGES};
 ghost use Rattle.bx_lapd.specs.declared.indication.Indication.TheVariants.{Delivered};
-ghost use Rattle.bx_line_world.specs.Posts.{no_post, post_from, is_full, told_to, reset, not_asked, begun_by, dropped_by};
+ghost use Rattle.bx_line_world.specs.Posts.{no_post, post_from, is_full, told_to, put, reset, not_asked, begun_by, dropped_by};
 ghost use Rattle.bx_line_world.specs.Serving.{has_news};
 ghost use Rattle.bx_line_world.specs.Steps.{TakesFirst};
 
@@ -10,7 +11,7 @@ use arrayvec::ArrayVec;
 use bx_frames::{LinkFault, MAX_MESSAGES};
 use bx_lapd::{ErrorCode, Indication};
 use bx_live::{Begin, Loss};
-use bx_q931::{Octets, copied};
+use bx_q931::{Octets, copied, restarts_interface};
 
 /// The most messages that wait: those of a turn.
 const MAX_WAITING: usize = MAX_MESSAGES as usize;
@@ -49,24 +50,43 @@ impl Post {
         post
     }
 
-    /// What was under way may be lost, and the other end has to be asked again. What was delivered before was acknowledged, and stays.
-    fn reset(&mut self)
-        ensures { self.new ≡ not_asked (reset self.old.here self.old) }
+    /// What was under way may be lost. What was delivered before was acknowledged, and stays.
+    fn lose(&mut self)
+        ensures { self.new ≡ reset self.old.here self.old }
     {
-        self.asked = false;
         if self.here {
             self.lost = Some(LinkFault::LinkReset);
         }
     }
 
+    /// The same, and the other end has to be asked again.
+    fn reset(&mut self)
+        ensures { self.new ≡ not_asked (reset self.old.here self.old) }
+    {
+        self.asked = false;
+        self.lose();
+    }
+
     /// One more message, where there is room.
     fn put(&mut self, message: Octets)
-        ensures { self.new ≡ told_to self.old (Delivered message) }
+        ensures { self.new ≡ put (nat_lt (length self.old.messages.items) MAX_MESSAGES) self.old message }
     {
         if self.messages.len() < MAX_WAITING {
             self.messages.push(message);
         } else {
             self.lost = Some(LinkFault::MoreThan64Messages);
+        }
+    }
+
+    /// A message was delivered. Where the other end restarts a whole interface by it, it has no call any more (ITU-T Q.931, 5.5.1): the day is
+    /// told as of a reset, so that it asks for each call, and clears none that is still up at both ends.
+    fn deliver(&mut self, message: Octets)
+        ensures { self.new ≡ told_to self.old (Delivered message) }
+    {
+        let restarts = restarts_interface(&message);
+        self.put(message);
+        if restarts {
+            self.lose();
         }
     }
 
@@ -76,7 +96,7 @@ impl Post {
         ensures { self.new ≡ told_to self.old told.now }
     {
         match told {
-            Indication::Delivered(message) => self.put(copied(message)),
+            Indication::Delivered(message) => self.deliver(copied(message)),
             Indication::LinkEstablished => self.reset(),
             Indication::LinkReleased => self.reset(),
             Indication::LinkError(ErrorCode::PeerEstablishes) => self.reset(),

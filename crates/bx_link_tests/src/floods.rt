@@ -61,6 +61,7 @@ fn run(alloc: Global, count: u32) -> Option<(Heard, Outcome)> {
         cut: (0, 0),
         anew: 0,
         release: 0,
+        gives: (0, &[]),
         flood: (3, count),
         jump: None,
         hears: Hears::Rehearsed,

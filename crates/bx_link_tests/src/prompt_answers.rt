@@ -244,6 +244,7 @@ fn neighbours(alloc: Global, hears: Hears) -> Option<[Outcome; 3]> {
         cut: (0, 0),
         anew: 0,
         release: 0,
+        gives: (0, &[]),
         flood: (0, 0),
         jump: None,
         hears,

@@ -16,7 +16,7 @@ const SECOND: u64 = 1_000_000_000;
 const DELAY: u64 = 20_000_000;
 
 /// Of a thousand frames so many are lost, as a seed draws them; between two seconds all are; in the middle of some second, if any, the far
-/// end asks for its link anew, or releases it; in some second, if any, it begins to send so many messages of 260 octets that mean nothing; at
+/// end asks for its link anew, or releases it, or gives a message over it; in some second, if any, it begins to send so many messages of 260 octets that mean nothing; at
 /// some millisecond, if any, the clock jumps to another; and how the far end hears.
 #[derive(Clone, Copy)]
 pub struct Manner {
@@ -25,6 +25,7 @@ pub struct Manner {
     pub cut: (u64, u64),
     pub anew: u64,
     pub release: u64,
+    pub gives: (u64, &'static [u8]),
     pub flood: (u64, u32),
     pub jump: Option<(u64, u64)>,
     pub hears: Hears,
@@ -174,15 +175,28 @@ impl MemoryWire {
         }
     }
 
-    /// When the far end asks for its link anew, or releases it: half a second after a second of it has begun.
+    /// When the far end asks for its link anew, or releases it, or gives its message: half a second after a second of it has begun.
     fn resets_at(&self) -> u64 {
-        match self.manner.anew.max(self.manner.release) {
+        let resets = self.manner.anew.max(self.manner.release);
+        match resets.max(self.manner.gives.0) {
             0 => u64::MAX,
             second => second.saturating_mul(SECOND).saturating_add(SECOND / 2),
         }
     }
 
+    /// Gives its message, once.
+    fn give_own(&mut self) {
+        let mut message = Octets::new();
+        let _ = message.try_extend_from_slice(self.manner.gives.1);
+        self.manner.gives = (0, &[]);
+        self.give(message);
+    }
+
     fn reset(&mut self) {
+        if self.manner.gives.0 > 0 {
+            self.give_own();
+            return;
+        }
         let now = self.instant();
         let done = if self.manner.anew > 0 {
             self.end.establish(now)

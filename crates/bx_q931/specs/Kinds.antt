@@ -53,7 +53,7 @@ name_of Notify = codes "NOTIFY"
 name_of StatusEnquiry = codes "STATUS ENQUIRY"
 name_of Information = codes "INFORMATION"
 name_of Status = codes "STATUS"
-name_of (Other octet) = codes "UNKNOWN"
+name_of (Other octet) = if octet == 0x46 then codes "RESTART" else if octet == 0x4E then codes "RESTART ACKNOWLEDGE" else codes "UNKNOWN"
 
 -- a message of section 4.4, not one of another type
 abbrev pub IsNamed : Kind → Type 0

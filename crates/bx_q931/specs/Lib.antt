@@ -9,4 +9,5 @@ pub mod Values
 pub mod ElementViews
 pub mod Inside
 pub mod Outgoing
+pub mod Restarts
 pub mod Parts

@@ -33,7 +33,7 @@ pub fn copied(message: &Octets) -> Octets
     }
 }
 
-fn push_all(octets: &mut Octets, more: &[u8])
+pub(crate) fn push_all(octets: &mut Octets, more: &[u8])
     requires { array_vec_len octets.old + length more.now ≤ MAX_MESSAGE }
     ensures { octets.new.items ≡ octets.old.items ++ more.now }
 {
@@ -42,7 +42,7 @@ fn push_all(octets: &mut Octets, more: &[u8])
     }
 }
 
-fn push_header(octets: &mut Octets, reference: u16, flag: bool, kind: Kind)
+pub(crate) fn push_header(octets: &mut Octets, reference: u16, flag: bool, kind: Kind)
     requires room { array_vec_len octets.old + 5 ≤ MAX_MESSAGE }
     requires limit { reference ≤ 32767 }
     ensures { octets.new.items ≡ octets.old.items ++ header_octets reference flag kind }

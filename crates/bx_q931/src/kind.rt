@@ -71,7 +71,7 @@ impl Kind {
         }
     }
 
-    /// The name of this type in capitals, `UNKNOWN` for any other.
+    /// The name of this type in capitals, `UNKNOWN` for one that Q.931 does not name.
     pub fn name(self) -> &'static str
         ensures { result.now ≡ name_of self }
     {
@@ -90,6 +90,8 @@ impl Kind {
             Kind::StatusEnquiry => "STATUS ENQUIRY",
             Kind::Information => "INFORMATION",
             Kind::Status => "STATUS",
+            Kind::Other(0x46) => "RESTART",
+            Kind::Other(0x4E) => "RESTART ACKNOWLEDGE",
             Kind::Other(_) => "UNKNOWN",
         }
     }

@@ -14,6 +14,7 @@ mod message;
 mod out;
 mod reading;
 mod reference;
+mod restart;
 
 pub use channel_field::ChannelField;
 pub use elements::{Element, Elements};
@@ -27,3 +28,7 @@ pub use message::{
 pub use out::Out;
 pub use reading::{MAX_MESSAGE, read};
 pub use reference::Reference;
+pub use restart::{
+    RESTART, RESTART_ACKNOWLEDGE, RESTART_INDICATOR, Restart, acknowledge_restart,
+    restarts_interface,
+};

@@ -1,7 +1,8 @@
 //! A message that was read, and what it says.
 
 ghost use Rattle.std.specs.Prelude.{◌≡◌, IsSome, option_map};
-ghost use Rattle.bx_q931.specs.Items.{all_items, items_in};
+ghost use Rattle.std.specs.List.{flat_map};
+ghost use Rattle.bx_q931.specs.Items.{all_items, items_in, item_octets};
 ghost use Rattle.bx_q931.specs.Elements.{elements_of};
 ghost use Rattle.bx_q931.specs.References.{IsReference};
 ghost use Rattle.bx_q931.specs.Messages.{plain_message};
@@ -75,6 +76,13 @@ impl<'a> Message<'a> {
         ensures limit { IsReference result }
     {
         self.reference
+    }
+
+    /// The octets of its items, as they came.
+    pub(crate) fn item_octets(&self) -> &'a [u8]
+        ensures { result.now ≡ flat_map item_octets self.now.items }
+    {
+        self.items
     }
 
     /// The information elements in order, shifts not among them.

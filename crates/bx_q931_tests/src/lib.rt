@@ -16,6 +16,8 @@ mod network_calls;
 #[cfg(test)]
 mod policies;
 #[cfg(test)]
+mod restarts;
+#[cfg(test)]
 mod steps;
 #[cfg(test)]
 mod unknown_references;

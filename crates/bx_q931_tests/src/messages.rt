@@ -79,6 +79,8 @@ fn headers_are_read(rt: HostRuntime) {
     let dummy = Some((Kind::Setup, Reference::Dummy));
     assert!(rt; header_of(&DUMMY_REFERENCE) == dummy, "none");
     assert_eq!(rt; Kind::of(0x6F).name(), "UNKNOWN");
+    assert_eq!(rt; Kind::of(0x46).name(), "RESTART");
+    assert_eq!(rt; Kind::of(0x4E).name(), "RESTART ACKNOWLEDGE");
 }
 
 /// Whether STATUS and SETUP say what they say.

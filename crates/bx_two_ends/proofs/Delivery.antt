@@ -1,12 +1,13 @@
 -- A message that was sent comes as its parts: what the codec reads of its octets is what was meant.
 use Rattle.bx_calls.specs.declared.rules.Rules.TheVariants.{Three}
-use Rattle.std.proofs.Common.{◌≡◌, ◌∙◌, ℕ, ◌==◌, ◌≤◌, Bool, true, false, Option, Some, None, option_map, refl, ap, arith, if◌then◌else◌}
+use Rattle.std.proofs.Common.{◌≡◌, ◌∙◌, ℕ, ◌==◌, ◌≤◌, ◌&&◌, not, Bool, true, false, Option, Some, None, option_map, refl, ap, arith, if◌then◌else◌}
 use Rattle.std.specs.Option.{IfSome}
 use Rattle.std.proofs.lemmas.Bool.{ne_eqb}
 use Rattle.bx_channels.specs.ChannelNumbers.{IsChannel}
 use Rattle.bx_channels.specs.Numbers.{IsNumber}
 use Rattle.bx_q931.specs.Outgoing.{Outgoing, IsOutgoing, out_octets, message_of, bearer_contents}
 use Rattle.bx_q931.specs.Parts.{HasParts, channel_part}
+use Rattle.bx_q931.specs.Restarts.{acknowledgement_at, acknowledgement_read, restart_answered}
 use Rattle.bx_q931.specs.Values.{cause_of, state_of, first_of, called_of}
 use Rattle.bx_q931.specs.declared.channel_field.ChannelField.{ChannelField}
 use Rattle.bx_q931.specs.declared.kind.Kind.{Kind}
@@ -47,6 +48,12 @@ heard_again o p =
 
 pub not_zero : (n : ℕ) → 1 ≤ n → (n == 0) ≡ false
 not_zero n h = ne_eqb n 0 (λ e. absurd (omega (arith, e, h)))
+
+-- it is no RESTART, which has the global reference
+pub never_acknowledged : (o : Outgoing) → Sendable o → acknowledgement_at (out_octets o) ≡ None
+never_acknowledged o h =
+    ap acknowledgement_read (written_again o h.out h.called)
+    ∙ ap (λ (b : Bool). restart_answered (b && not o.flag) (message_of o)) (not_zero o.reference h.out.reference.0)
 
 pub receive_sent : (d : Day) (o : Outgoing) → Sendable o → receive_octets d (out_octets o) ≡ receive d (said_from o)
 receive_sent d o h =

@@ -15,7 +15,7 @@ use Rattle.bx_two_ends.proofs.Turning.{octets_day}
 use Rattle.bx_frames.specs.declared.fault.LinkFault.{LinkFault}
 use Rattle.bx_frames.specs.declared.frame.Receiver.TheVariants.{Exchange, FarEnd}
 use Rattle.bx_frames.proofs.Events.{after_more, told_more}
-use Rattle.bx_day.specs.Course.{exchange_next, exchange_text}
+use Rattle.bx_day.specs.Course.{exchange_next, exchange_text, answered_with}
 use Rattle.bx_day.specs.Day.{Day}
 use Rattle.bx_day.specs.Run.{receive_octets}
 use Rattle.bx_day.specs.Ticks.{tick}
@@ -26,7 +26,7 @@ use Rattle.bx_link.specs.Talking.{follow_by, far_hears, far_talk_in, closed_befo
 use Rattle.bx_sessions.specs.Talking.{exchange_turn, talk_in}
 use Rattle.bx_two_ends.specs.Earning.{heard_in, seconds_after}
 use Rattle.bx_two_ends.specs.Lockstep.{Ends, far_heard, far_says, exchange_says, received_in, octets_received, replies_in, far_after_calls, turns_from}
-use Rattle.bx_two_ends.proofs.Delivery.{Sendable}
+use Rattle.bx_two_ends.proofs.Delivery.{Sendable, never_acknowledged}
 use Rattle.bx_two_ends.proofs.ExchangeLimits.{tick_sendable, tick_within}
 use Rattle.bx_two_ends.proofs.ExchangeTicks.{tick_seats}
 use Rattle.bx_two_ends.proofs.FarLimits.{FarTickOk, far_tick_ok}
@@ -69,11 +69,12 @@ pub near_after : (os : List Outgoing) (d : Day) → after exchange_next (hearing
 near_after [] d = refl
 near_after (o ∷ os) d = near_after os (receive_octets d (out_octets o)).day
 
-pub near_told : (os : List Outgoing) (d : Day) → told exchange_next exchange_text (hearings os) d ≡ framed (exchange_says os d)
-near_told [] d = refl
-near_told (o ∷ os) d =
+pub near_told : (os : List Outgoing) (d : Day) → AllByRecursion Sendable os → told exchange_next exchange_text (hearings os) d ≡ framed (exchange_says os d)
+near_told [] d s = refl
+near_told (o ∷ os) d s =
     let x = receive_octets d (out_octets o) in
-    ap (λ (l : List ℕ). framed (reply_list x.reply) ++ l) (near_told os x.day) ∙ sym (framed_more (reply_list x.reply) (exchange_says os x.day))
+    ap (λ (a : Option (List ℕ)). frames_of (answered_with a (spelled (reply_list x.reply))) ++ told exchange_next exchange_text (hearings os) x.day) (never_acknowledged o s.0)
+    ∙ ap (λ (l : List ℕ). framed (reply_list x.reply) ++ l) (near_told os x.day s.1) ∙ sym (framed_more (reply_list x.reply) (exchange_says os x.day))
 
 -- what the far end says, and is, after two lists of messages
 pub far_heard_more : (xs ys : List Outgoing) (f : FarDay) → far_heard (xs ++ ys) f ≡ far_heard ys (far_heard xs f)
@@ -340,7 +341,7 @@ module _ (assigned : List (Option ℕ)) (n k : ℕ) (d : Day) (f : FarDay) (r : 
       ap (λ (t : Talk). told exchange_next exchange_text t.events D1) near_goes
       ∙ told_more exchange_next exchange_text (hearings R) NearRest.events D1
       ∙ ap (λ (x : Day). told exchange_next exchange_text (hearings R) D1 ++ told exchange_next exchange_text NearRest.events x) (near_after R D1)
-      ∙ ap (λ (l : List ℕ). l ++ Said2) (near_told R D1)
+      ∙ ap (λ (l : List ℕ). l ++ Said2) (near_told R D1 r_said)
 
   left : Said1 ++ far_more ≡ framed R1 ++ (Said2 ++ far_more)
   left = ap (λ (l : List ℕ). l ++ far_more) says_on ∙ append_assoc (framed R1) Said2 far_more
