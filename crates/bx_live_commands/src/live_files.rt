@@ -124,7 +124,7 @@ fn run_live_day<'a, H: Host, I: Inputs>(
     let hours = hours_of(request.hours)?;
     let opening = live_opening(rt.alloc(), inputs, request.plan)?;
     let socket = line_between(rt, request.line)?;
-    let premises = premises_of(rt, request, opening.channels, hours.day)?;
+    let premises = premises_of(rt, request, opening.channels, hours)?;
     run_on_socket(rt, request, hours, opening, socket, premises, is_terminal)
 }
 

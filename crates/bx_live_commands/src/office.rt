@@ -11,7 +11,9 @@ use crate::by_office::Premises;
 use bx_base::ChannelSet;
 use bx_calendar::Day;
 use bx_day::Exchange;
-use bx_day_openings::{AFTER_THE_LAST, DayCommandFault, System, day_turns, listener_at, unheard};
+use bx_day_openings::{
+    AFTER_THE_LAST, DayCommandFault, Hours, System, day_turns, listener_at, unheard,
+};
 use bx_office::Place as DoorPlace;
 use bx_office_door::{Door, Listening};
 use bx_request::{LiveRequest, Place};
@@ -33,16 +35,23 @@ fn listening<H: System>(rt: &H, place: Place<'_>) -> io::Result<Listening> {
     }
 }
 
-/// A door at a place. `CannotListen` where nobody can be let in there.
-fn door_at<'a, H: System>(rt: &H, place: Place<'a>) -> Result<Door, DayCommandFault<'a>>
-    ensures { IfErr result IsUnheard }
+/// A door at a place, of a day that begins then, in nanoseconds since 1970. `CannotListen` where nobody can be let in there.
+fn door_at<'a, H: System>(
+    rt: &H,
+    place: Place<'a>,
+    opens: u128,
+) -> Result<Door, DayCommandFault<'a>>
+    ensures opens { IfOk result (λ door. door.opens ≡ opens) }
+    ensures refused { IfErr result IsUnheard }
 {
     match (listening(rt, place), place) {
         (Ok(listening), Place::Port(port)) => {
-            Ok(Door::new(rt.alloc(), DoorPlace::Port(port), listening))
+            let place = DoorPlace::Port(port);
+            Ok(Door::new(rt.alloc(), place, listening, opens))
         }
         (Ok(listening), Place::Socket(_)) => {
-            Ok(Door::new(rt.alloc(), DoorPlace::Socket, listening))
+            let place = DoorPlace::Socket;
+            Ok(Door::new(rt.alloc(), place, listening, opens))
         }
         (Err(cause), Place::Port(port)) => {
             let place = SocketAddrV4::new(Ipv4Addr::LOCALHOST, port);
@@ -79,7 +88,7 @@ pub(crate) fn premises_of<'a, H: System>(
     rt: &H,
     request: LiveRequest<'a>,
     channels: ChannelSet,
-    day: Day,
+    hours: Hours,
 ) -> Result<Option<Premises>, DayCommandFault<'a>>
     ensures opened { IfOk result (IsOpenAt (has_office request.entry) channels) }
     ensures wanted { OnErr result (has_office request.entry ≡ true) }
@@ -87,8 +96,8 @@ pub(crate) fn premises_of<'a, H: System>(
 {
     match (request.office, request.journal) {
         (Some(place), Some(_)) => {
-            let door = door_at(rt, place)?;
-            Ok(Some(premises_at(rt.alloc(), door, channels, day)?))
+            let door = door_at(rt, place, hours.schedule.instant(0))?;
+            Ok(Some(premises_at(rt.alloc(), door, channels, hours.day)?))
         }
         _ => Ok(None),
     }

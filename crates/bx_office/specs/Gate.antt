@@ -6,7 +6,7 @@ use Rattle.bx_office.specs.Hosts.{is_own_host, is_own_origin}
 use Rattle.bx_office.specs.declared.gate.Place.{Place}
 use Rattle.bx_office.specs.declared.gate.Request.{Request}
 use Rattle.bx_office.specs.declared.gate.Route.{Route}
-use Rattle.bx_office.specs.declared.gate.Route.TheVariants.{Home, Script, Style, Bookings, Quote, Plan, Outcomes, Records, Chart, Metrics, Health, Office}
+use Rattle.bx_office.specs.declared.gate.Route.TheVariants.{Home, Script, Style, Bookings, Quote, Plan, Outcomes, Records, Chart, Metrics, Health, Ready, Office}
 use Rattle.bx_office.specs.declared.gate.Refusal.{Refusal}
 use Rattle.bx_office.specs.declared.gate.Refusal.TheVariants.{Doubled, OtherHost, OtherOrigin, UnknownMethod, NotFound, WrongMethod, NotCsv, Coded, NoLength}
 
@@ -47,6 +47,7 @@ path_of Records = codes "/records"
 path_of Chart = codes "/chart.svg"
 path_of Metrics = codes "/metrics"
 path_of Health = codes "/healthz"
+path_of Ready = codes "/ready"
 path_of Office = codes "*"
 
 -- the methods that HTTP has for what stands at a path (RFC 9110, section 9.3, and RFC 5789)

@@ -5,5 +5,6 @@ pub mod Heads
 pub mod Replies
 pub mod Refusals
 pub mod Pages
+pub mod Early
 pub mod Clients
 pub mod Inside

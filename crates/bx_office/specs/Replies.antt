@@ -1,5 +1,5 @@
 -- What an answer is as octets.
-use Rattle.std.specs.Prelude.{ℕ, Bool, true, false, List, [], ◌∷◌, ◌++◌, length, codes, if◌then◌else◌}
+use Rattle.std.specs.Prelude.{ℕ, Bool, true, false, List, [], ◌∷◌, ◌++◌, length, codes, decimal, if◌then◌else◌}
 use Rattle.httpdate.specs.Date.{date_text}
 use Rattle.httpdate.specs.declared.date.HttpDate.{HttpDate}
 use Rattle.http1.specs.declared.conn.BodySize.TheVariants.{Known}
@@ -75,10 +75,16 @@ allowed_of Methods.Get = (codes "allow", codes "GET, HEAD")
 allowed_of Methods.Options = (codes "allow", codes "OPTIONS")
 allowed_of Methods.All = (codes "allow", codes "GET, HEAD, POST, OPTIONS")
 allowed_of Methods.Uncoded = (codes "accept-encoding", codes "identity")
+allowed_of (Methods.After seconds) = (codes "vary", codes "origin")
+
+-- in how many seconds to ask again
+abbrev pub wait_of : Allowed → ℕ
+wait_of (Methods.After seconds) = seconds
+wait_of _ = 1
 
 -- what is allowed; or when to ask again, where there is no answer now (RFC 9110, section 10.2.3)
 abbrev pub advice_of : Status → Allowed → Header
-advice_of Statuses.Unavailable allowed = (codes "retry-after", codes "1")
+advice_of Statuses.Unavailable allowed = (codes "retry-after", decimal (wait_of allowed))
 advice_of _ allowed = allowed_of allowed
 
 abbrev pub header_fields_of : HttpDate → Reply → Bool → List Header

@@ -42,6 +42,8 @@ pub enum Route {
     Metrics,
     /// `GET /healthz`: whether the day goes on.
     Health,
+    /// `GET /ready`: whether a call could be carried now.
+    Ready,
     /// `OPTIONS *`: which methods there are at all (RFC 9110, section 9.3.7).
     Office,
 }
@@ -117,6 +119,8 @@ fn route_at(path: &[u8]) -> Option<Route>
         Some(Route::Metrics)
     } else if is_word(path, "/healthz") {
         Some(Route::Health)
+    } else if is_word(path, "/ready") {
+        Some(Route::Ready)
     } else if is_word(path, "*") {
         Some(Route::Office)
     } else {

@@ -2,6 +2,7 @@
 #![tactic(auto)]
 
 mod client;
+mod early;
 mod gate;
 mod heads;
 mod hosts;
@@ -11,6 +12,7 @@ mod reply;
 mod targets;
 
 pub use client::{Client, Stage};
+pub use early::{Eve, at_once};
 pub use gate::{Place, Refusal, Request, Route, let_through};
 pub use pages::page;
 pub use refusals::{crowded, too_slow};

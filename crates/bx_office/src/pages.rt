@@ -156,11 +156,16 @@ const tell = (text) => {
     ...causes.flatMap((found) => [element(\"dt\", `Cleared with cause ${found[2]}`), element(\"dd\", found[3])]),
   );
 };
+const states = { \"not begun\": \"The day has not begun.\", \"in time\": \"The day goes on in time.\", late: \"The last second began late.\" };
+const inState = (text) => {
+  const lines = text.trim().split(\"\\n\");
+  return `${states[lines[0]] || lines[0]}${lines.includes(\"link none\") ? \" There is no link.\" : \"\"}`;
+};
 const show = async () => {
   try {
     tell((await ask(\"/metrics\")).text);
     const health = await ask(\"/healthz\");
-    at(\"health\").textContent = health.isFine ? \"The day goes on in time.\" : \"The last second began late.\";
+    at(\"health\").textContent = inState(health.text);
     at(\"chart\").src = `/chart.svg?${Date.now()}`;
   } catch (fault) {
     at(\"health\").textContent = \"The office does not answer.\";

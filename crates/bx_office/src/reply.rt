@@ -1,14 +1,15 @@
 //! What a client is answered.
 
-ghost use Rattle.std.specs.Prelude.{◌≡◌, ◌++◌, ◌/◌, min, OnOk, codes};
+ghost use Rattle.std.specs.Prelude.{◌≡◌, ◌++◌, ◌/◌, min, OnOk, codes, decimal};
 ghost use Rattle.http1.specs.Head.{header_parts};
 ghost use Rattle.httpdate.specs.Date.{date_text, unix_secs};
-ghost use Rattle.bx_office.specs.Replies.{code_of, reason_phrase_of, type_of, reply_policy, allowed_of, advice_of, head_text, after_head, body_text, after_body, reply_text};
+ghost use Rattle.bx_office.specs.Replies.{code_of, reason_phrase_of, type_of, reply_policy, allowed_of, wait_of, advice_of, head_text, after_head, body_text, after_body, reply_text};
 ghost use Rattle.bx_office.specs.Inside.{after_reply};
 
 use bytes::BytesMut;
 use http1::{BodySize, Header, Server, WriteError};
 use httpdate::HttpDate;
+use itoa::Buffer;
 
 /// How an answer begins.
 #[derive(Clone, Copy, Debug, PartialEq, Eq)]
@@ -104,7 +105,7 @@ impl Kind {
     }
 }
 
-/// What is allowed, where an answer says so: methods, or codings of a body.
+/// What is allowed, where an answer says so: methods, or codings of a body, or nothing for some time.
 #[derive(Clone, Copy, Debug, PartialEq, Eq)]
 pub enum Allowed {
     /// Nothing is said.
@@ -119,6 +120,8 @@ pub enum Allowed {
     All,
     /// A body that is not coded.
     Uncoded,
+    /// Nothing for so many seconds, where there is no answer now.
+    After(u32),
 }
 
 /// An answer.
@@ -197,7 +200,7 @@ fn allowed_field(allowed: Allowed) -> Header<'static>
     ensures { header_parts result ≡ allowed_of allowed }
 {
     match allowed {
-        Allowed::Unsaid => field("vary", "origin"),
+        Allowed::Unsaid | Allowed::After(_) => field("vary", "origin"),
         Allowed::Post => field("allow", "POST"),
         Allowed::Get => field("allow", "GET, HEAD"),
         Allowed::Options => field("allow", "OPTIONS"),
@@ -206,12 +209,23 @@ fn allowed_field(allowed: Allowed) -> Header<'static>
     }
 }
 
-/// The field that says what is allowed; or when to ask again, where there is no answer now.
-fn advice_field(status: Status, allowed: Allowed) -> Header<'static>
+/// In how many seconds to ask again, where there is no answer now.
+fn wait_of(allowed: Allowed) -> u32
+    ensures { result ≡ wait_of allowed }
+{
+    match allowed {
+        Allowed::After(seconds) => seconds,
+        _ => 1,
+    }
+}
+
+/// The field that says what is allowed; or when to ask again, where there is no answer now: after this wait.
+fn advice_field<'a>(status: Status, allowed: Allowed, wait: &'a str) -> Header<'a>
+    requires { wait.now ≡ decimal (wait_of allowed) }
     ensures { header_parts result ≡ advice_of status allowed }
 {
     match status {
-        Status::Unavailable => field("retry-after", "1"),
+        Status::Unavailable => field("retry-after", wait),
         _ => allowed_field(allowed),
     }
 }
@@ -237,7 +251,9 @@ fn write_head(
     let sniffed = field("x-content-type-options", "nosniff");
     let shared = field("cross-origin-resource-policy", "same-origin");
     let policy = field("content-security-policy", policy_of(reply.kind));
-    let advice = advice_field(reply.status, reply.allowed);
+    let mut digits = Buffer::new();
+    let wait = digits.format(wait_of(reply.allowed));
+    let advice = advice_field(reply.status, reply.allowed, wait);
     if is_last {
         let last = field("connection", "close");
         let fields = [dated, kind, kept, sniffed, shared, policy, advice, last];

@@ -187,3 +187,9 @@ guests_moved c xs ys g h same e =
     let before : numbers_of (xs ++ g ∷ ys) ≡ numbers_of xs ++ g.number ∷ numbers_of ys = numbers-append xs (g ∷ ys) in
     let following : numbers_of (xs ++ ys ++ h ∷ []) ≡ numbers_of xs ++ numbers_of ys ++ g.number ∷ [] = numbers-push (xs ++ ys) h ∙ ap (λ (ns : List ℕ). ns ++ h.number ∷ []) (numbers-append xs ys) ∙ ap (λ (n : ℕ). numbers_of xs ++ numbers_of ys ++ n ∷ []) same in
     ap (are_given c) following ∙ given_moved c g.number (numbers_of xs) (numbers_of ys) (sym (ap (are_given c) before) ∙ e)
+
+-- one is taken out
+pub guests_out : (c : ℕ) (xs ys : List Guest) (g : Guest) → are_given c (numbers_of (xs ++ g ∷ ys)) ≡ true → are_given c (numbers_of (xs ++ ys)) ≡ true
+guests_out c xs ys g e =
+    let before : numbers_of (xs ++ g ∷ ys) ≡ numbers_of xs ++ g.number ∷ numbers_of ys = numbers-append xs (g ∷ ys) in
+    ap (are_given c) (numbers-append xs ys) ∙ given_thinned c (numbers_of xs ++ g.number ∷ numbers_of ys) (numbers_of xs ++ numbers_of ys) (thinned_out g.number (numbers_of xs) (numbers_of ys)) (sym (ap (are_given c) before) ∙ e)

@@ -63,3 +63,10 @@ kept_moved gs gs' i g h most lt is out none le =
     let two = kept-append (take i gs) (drop (i + 1) gs) in
     let all = kept_cut gs i in
     omega (arith, e, two, all, none, le)
+
+-- one is taken out
+pub kept_out : (gs gs' : List Guest) (i most : ℕ) → gs' ≡ take i gs ++ drop (i + 1) gs → kept_of gs ≤ most → kept_of gs' ≤ most
+kept_out gs gs' i most out le =
+    let e = ap kept_of out ∙ kept-append (take i gs) (drop (i + 1) gs) in
+    let all = kept_cut gs i in
+    omega (arith, e, all, le)

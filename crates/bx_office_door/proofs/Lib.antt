@@ -1,3 +1,4 @@
 pub mod Standing
 pub mod GivenNumbers
 pub mod KeptSums
+pub mod Quiet

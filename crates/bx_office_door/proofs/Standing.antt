@@ -5,9 +5,9 @@ use Rattle.std.proofs.lemmas.List.{take_more, append_assoc, take-append-drop}
 use Rattle.bx_office.specs.declared.client.Client.{Client}
 use Rattle.bx_office.specs.declared.reply.Reply.{Reply}
 use Rattle.bx_office_door.specs.Places.{IsFirstGuest}
-use Rattle.bx_office_door.specs.Guests.{client_of, numbers_of, are_given, IsGuestTold, IsAnswered, IsAnsweredThere}
+use Rattle.bx_office_door.specs.Guests.{client_of, numbers_of, are_given, IsGuestTold, IsAnswered, IsAnsweredThere, IsSentAway}
 use Rattle.bx_office_door.specs.declared.guest.Guest.{Guest}
-use Rattle.bx_office_door.proofs.GivenNumbers.{guests_moved}
+use Rattle.bx_office_door.proofs.GivenNumbers.{guests_moved, guests_out}
 
 passed : (b : Bool) (c : Client) (x y z : Option Client) → (if b then Some c else x) ≡ None → (x ≡ None → y ≡ z) → (if b then Some c else y) ≡ z
 passed true c x y z e f = cc
@@ -62,6 +62,22 @@ pub still_given : (c : ℕ) (reply : Reply) (gs gs' gs'' : List Guest) (i : ℕ)
 still_given c reply gs gs' gs'' i g h lt is out told back e =
     let before : are_given c (numbers_of (take i gs ++ g ∷ drop (i + 1) gs)) ≡ true = sym (ap (λ (xs : List Guest). are_given c (numbers_of xs)) (cut_at gs i g lt is)) ∙ e in
     ap (λ (xs : List Guest). are_given c (numbers_of xs)) (back ∙ ap (λ (xs : List Guest). xs ++ h ∷ []) out) ∙ guests_moved c (take i gs) (drop (i + 1) gs) g h told.number before
+
+-- who has hung up is taken out
+pub sent_away : (n : ℕ) (gs gs' : List Guest) (i : ℕ) (g : Guest) → IsFirstGuest n gs i → g ≡ get_or gs i g → gs' ≡ take i gs ++ drop (i + 1) gs → IsSentAway n gs gs'
+sent_away n gs gs' i g f is out = record {
+  before = take i gs;
+  guest = g;
+  following = drop (i + 1) gs;
+  stood = cut_at gs i g f.inside is;
+  first = f.before;
+  named = ap (λ (x : Guest). x.number) is ∙ f.here g;
+  stand = out;
+}
+
+pub given_out : (c : ℕ) (gs gs' : List Guest) (i : ℕ) (g : Guest) → i < length gs → g ≡ get_or gs i g → gs' ≡ take i gs ++ drop (i + 1) gs → are_given c (numbers_of gs) ≡ true → are_given c (numbers_of gs') ≡ true
+given_out c gs gs' i g lt is out e =
+    ap (λ (xs : List Guest). are_given c (numbers_of xs)) out ∙ guests_out c (take i gs) (drop (i + 1) gs) g (sym (ap (λ (xs : List Guest). are_given c (numbers_of xs)) (cut_at gs i g lt is)) ∙ e)
 
 -- whoever is there is answered
 pub is_there : (n : ℕ) (reply : Reply) (old new : List Guest) (c : Client) → client_of n old ≡ Some c → IsAnsweredThere n reply old new → IsAnswered n reply old new

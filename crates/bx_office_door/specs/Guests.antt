@@ -1,5 +1,5 @@
 -- Who stands at the door: clients with their numbers, in their order.
-use Rattle.std.specs.Prelude.{◌≡◌, ◌⊎◌, ℕ, ◌+◌, ◌-◌, ◌==◌, ◌&&◌, ◌||◌, nat_le, not, if◌then◌else◌, Bool, true, false, List, [], ◌∷◌, ◌++◌, map, Option, Some, None}
+use Rattle.std.specs.Prelude.{◌≡◌, ◌⊎◌, ℕ, ◌+◌, ◌-◌, ◌==◌, ◌&&◌, ◌||◌, nat_le, not, if◌then◌else◌, Bool, true, false, List, [], ◌∷◌, ◌++◌, map, Option, Some, None, is_some}
 use Rattle.std.specs.List.{range_with_len}
 use Rattle.bx_office.specs.Clients.{IsReplySaid, IsAfterAnswer}
 use Rattle.bx_office.specs.declared.client.Client.{Client}
@@ -7,6 +7,7 @@ use Rattle.bx_office.specs.declared.client.Stage.{Stage}
 use Rattle.bx_office.specs.declared.client.Stage.TheVariants.{Asked}
 use Rattle.bx_office.specs.declared.gate.Route.{Route}
 use Rattle.bx_office.specs.declared.reply.Reply.{Reply}
+use Rattle.bx_office_door.specs.declared.customer.Customer.{Customer}
 use Rattle.bx_office_door.specs.declared.guest.Guest.{Guest}
 
 -- ---- who is meant
@@ -62,6 +63,23 @@ pub record IsAnswered (number : ℕ) (reply : Reply) (old new : List Guest) : Ty
 -- .. where it is there; else all stand as they stood
 abbrev pub IsAnsweredThere : ℕ → Reply → List Guest → List Guest → Type 0
 IsAnsweredThere number reply old new = ((client_of number old ≡ None) × (new ≡ old)) ⊎ IsAnswered number reply old new
+
+-- ---- who has hung up
+
+-- just the client of this number is sent away, and has no answer
+pub record IsSentAway (number : ℕ) (old new : List Guest) : Type 0 where
+  pub before : List Guest
+  pub guest : Guest
+  pub following : List Guest
+  pub stood : old ≡ before ++ guest ∷ following
+  pub first : client_of number before ≡ None
+  pub named : guest.number ≡ number
+  pub stand : new ≡ before ++ following
+
+-- who is there is the customer, and all stand as they stood; or who has hung up is sent away
+abbrev pub IsLookedFor : ℕ → List Guest → List Guest → Option Customer → Type 0
+IsLookedFor number old new (Some customer) = (customer.number ≡ number) × (is_some (client_of number old) ≡ true) × (new ≡ old)
+IsLookedFor number old new None = ((client_of number old ≡ None) × (new ≡ old)) ⊎ IsSentAway number old new
 
 -- ---- what is kept
 

@@ -3,5 +3,8 @@ pub mod Streams
 pub mod Guests
 pub mod Places
 pub mod Doors
+pub mod Eves
 pub mod Inside
 pub mod Patience
+pub mod Waiting
+pub mod Hearing

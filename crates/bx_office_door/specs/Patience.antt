@@ -1,14 +1,15 @@
 -- Private: how long a client has, and what one may ask for that came beyond the places.
-use Rattle.std.specs.Prelude.{ℕ, ◌+◌, ◌-◌, ◌*◌, ◌/◌, nat_lt, ◌&&◌, ◌||◌, not, if◌then◌else◌, Bool, true, false, length, Option, Some, None}
+use Rattle.std.specs.Prelude.{◌≡◌, ℕ, ◌+◌, ◌-◌, ◌*◌, ◌/◌, nat_lt, ◌&&◌, ◌||◌, not, if◌then◌else◌, Bool, true, false, length, Option, Some, None}
 use Rattle.bx_office.specs.declared.gate.Route.{Route}
-use Rattle.bx_office.specs.declared.gate.Route.TheVariants.{Health, Metrics}
+use Rattle.bx_office.specs.declared.gate.Route.TheVariants.{Health, Ready, Metrics}
 use Rattle.bx_office.specs.declared.client.Stage.{Stage}
 use Rattle.bx_office.specs.declared.client.Stage.TheVariants.{Body, Asked}
+use Rattle.bx_office_door.specs.Waiting.{waits_for_answer}
 use Rattle.bx_office_door.specs.declared.guest.Guest.{Guest}
 
-abbrev pub waits_for_answer : Stage → Bool
-waits_for_answer (Asked route) = true
-waits_for_answer _ = false
+-- who waits for no answer goes on so
+abbrev pub StaysQuiet : Guest → Guest → Type 0
+StaysQuiet old new = waits_for_answer old.client.stage ≡ false → waits_for_answer new.client.stage ≡ false
 
 -- 10 seconds, in nanoseconds, and a second more for each 16,384 octets of a body that came; who came beyond the places has 2 seconds
 abbrev pub patience_of : Bool → ℕ → ℕ
@@ -30,6 +31,7 @@ is_out_of_time now is_full g = is_over_since now is_full g.since g
 -- what a monitor asks for
 abbrev pub is_watched : Route → Bool
 is_watched Health = true
+is_watched Ready = true
 is_watched Metrics = true
 is_watched _ = false
 

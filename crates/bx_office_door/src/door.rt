@@ -4,6 +4,8 @@ ghost use Rattle.std.specs.Prelude.{◌≡◌, ◌+◌, ◌≤◌, true, vec_len
 ghost use Rattle.bx_office_door.specs.Guests.{numbers_of, are_given, kept_of};
 ghost use Rattle.bx_office_door.specs.declared.door.TheConstants.{MAX_GUESTS, SPARE, MAX_KEPT};
 
+use crate::customer::Customer;
+use crate::eves::eve_at;
 use crate::guest::Guest;
 use crate::stream::Listening;
 use bx_office::{Client, Place, Reply, Route, Stage};
@@ -12,7 +14,7 @@ use std::alloc::Global;
 /// The places. Whoever comes beyond them is told when to ask again.
 const MAX_GUESTS: usize = 64;
 
-/// How many may come beyond them at a time, of whom each is let to ask for `/healthz` and `/metrics`; others wait in the queue of the listener.
+/// How many may come beyond them at a time, of whom each is let to ask for what a monitor asks for; others wait in the queue of the listener.
 const SPARE: usize = 4;
 
 /// The most octets of all bodies together: 32 MiB.
@@ -31,6 +33,10 @@ pub struct Door {
     answers: u64,
     /// What the clock showed last, in nanoseconds.
     shown: u128,
+    /// When the day begins, in nanoseconds since 1970.
+    opens: u128,
+    /// The figures that are told until then, where memory was had for them.
+    figures: Option<Vec<u8>>,
     ghost few: { vec_len guests ≤ MAX_GUESTS + SPARE },
     ghost kept: { kept_of guests.items ≤ MAX_KEPT },
     ghost given: { are_given count (numbers_of guests.items) ≡ true },
@@ -38,15 +44,17 @@ pub struct Door {
 
 impl Door {
     ghost use Rattle.std.specs.Prelude.{◌++◌, ◌-◌, ◌<◌, [], None, Some, MatchOption, filter, not, if◌then◌else◌, slice_index_or};
-    ghost use Rattle.bx_office_door.specs.Guests.{first_asked, client_of, given_since, IsAnsweredThere};
+    ghost use Rattle.bx_office_door.specs.Guests.{first_asked, client_of, given_since, IsAnsweredThere, IsLookedFor};
     ghost use Rattle.bx_office_door.specs.Places.{IsFirstGuest};
     ghost use Rattle.bx_office_door.specs.declared.guest.Guest.{Guest};
-    ghost use Rattle.bx_office_door.specs.Doors.{answers_after, guests_of, IsAttended};
+    ghost use Rattle.bx_office_door.specs.Doors.{answers_after, guests_of, is_early, IsAttended, IsStill};
 
-    /// A door where nobody stands yet.
-    pub fn new(alloc: Global, place: Place, listening: Listening) -> Door
+    /// A door where nobody stands yet, of a day that begins then, in nanoseconds since 1970.
+    pub fn new(alloc: Global, place: Place, listening: Listening, opens: u128) -> Door
         ensures nobody { guests_of result ≡ [] }
         ensures place { result.place ≡ place }
+        ensures opens { result.opens ≡ opens }
+        ensures figures { result.figures ≡ None }
         ensures counts { (result.count ≡ 0) × (result.answers ≡ 0) × (result.shown ≡ 0) }
     {
         Door {
@@ -57,6 +65,8 @@ impl Door {
             count: 0,
             answers: 0,
             shown: 0,
+            opens,
+            figures: None,
         }
     }
 
@@ -64,7 +74,7 @@ impl Door {
     fn let_in(&mut self, now: u128)
         ensures count { self.old.count ≤ self.new.count }
         ensures numbers { numbers_of (guests_of self.new) ≡ numbers_of (guests_of self.old) ++ given_since self.old.count self.new.count }
-        ensures others { (self.new.answers ≡ self.old.answers) × (self.new.shown ≡ self.old.shown) }
+        ensures others { IsStill self.old self.new }
     {
         for _guest in 0..MAX_GUESTS {
             if self.guests.len() >= MAX_GUESTS + SPARE {
@@ -107,16 +117,18 @@ impl Door {
         MAX_KEPT.saturating_sub(others)
     }
 
-    /// Moves what is ready of each client.
-    fn go_on(&mut self, now: u128)
+    /// Moves what is ready of each client. Before the day begins nobody waits for an answer after it.
+    fn go_on(&mut self, now: u128, is_heard: bool)
+        ensures early { now < self.old.opens → first_asked (guests_of self.new) ≡ None }
         ensures count { self.new.count ≡ self.old.count }
         ensures numbers { numbers_of (guests_of self.new) ≡ numbers_of (guests_of self.old) }
-        ensures others { (self.new.answers ≡ self.old.answers) × (self.new.shown ≡ self.old.shown) }
+        ensures others { IsStill self.old self.new }
     {
         let is_full = self.guests.len() > MAX_GUESTS;
         for index in 0..self.guests.len() {
             let free = self.free_at(index);
-            self.guests[index].attend(now, is_full, free);
+            let eve = eve_at(self.opens, now, is_heard, &self.figures);
+            self.guests[index].attend(now, is_full, free, eve);
         }
     }
 
@@ -124,19 +136,34 @@ impl Door {
     fn let_out(&mut self)
         ensures count { self.new.count ≡ self.old.count }
         ensures stay { guests_of self.new ≡ filter (λ guest. not guest.is_gone) (guests_of self.old) }
-        ensures others { (self.new.answers ≡ self.old.answers) × (self.new.shown ≡ self.old.shown) }
+        ensures others { IsStill self.old self.new }
     {
         self.guests.retain(|guest| !guest.is_gone());
     }
 
-    /// Moves what is ready, and never waits: `now` is what the clock shows, in nanoseconds. Who comes stands after the others.
-    pub fn attend(&mut self, now: u128)
+    /// Moves what is ready, and never waits: `now` is what the clock shows, in nanoseconds. Who comes stands after the others. Before the day
+    /// begins whoever asks is answered at once (`at_once`), and told whether the other end of the line was heard of late.
+    pub fn attend(&mut self, now: u128, is_heard: bool)
         ensures { IsAttended now self.old self.new }
     {
         self.shown = now;
         self.let_in(now);
-        self.go_on(now);
+        self.go_on(now, is_heard);
         self.let_out();
+    }
+
+    /// Whether the day has not begun by what the clock showed last.
+    pub fn is_early(&self) -> bool
+        ensures { result ≡ is_early self.now }
+    {
+        self.opens > self.shown
+    }
+
+    /// Keeps the figures that are told before the day begins.
+    pub fn keep_figures(&mut self, figures: Option<Vec<u8>>)
+        ensures { self.new ≡ record self.old { figures = figures } }
+    {
+        self.figures = figures;
     }
 
     /// What the clock showed when the door was attended last, in nanoseconds; 0 before.
@@ -189,12 +216,28 @@ impl Door {
         None
     }
 
+    /// Looks at the socket of the client of this number, just before something is sold to it: the customer, where it is there and its side of the
+    /// connection is open. One that has hung up is sent away without an answer, and all others stand as they stood.
+    pub fn customer(&mut self, number: u64) -> Option<Customer>
+        ensures looked { IsLookedFor number (guests_of self.old) (guests_of self.new) result }
+        ensures count { self.new.count ≡ self.old.count }
+        ensures others { IsStill self.old self.new }
+    {
+        let index = self.place_of(number)?;
+        if self.guests[index].has_hung_up() {
+            let _gone = self.guests.remove(index);
+            return None;
+        }
+        Some(Customer::new(number))
+    }
+
     /// Answers just the client of this number, where it is there. It stands after the others then.
     pub fn answer(&mut self, number: u64, reply: Reply<'_>)
         ensures answered { IsAnsweredThere number reply.entry (guests_of self.old) (guests_of self.new) }
         ensures answers { self.new.answers ≡ answers_after number self.old }
         ensures count { self.new.count ≡ self.old.count }
         ensures shown { self.new.shown ≡ self.old.shown }
+        ensures opens { (self.new.opens ≡ self.old.opens) × (self.new.figures ≡ self.old.figures) }
     {
         let Some(index) = self.place_of(number) else {
             return;

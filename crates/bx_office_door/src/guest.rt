@@ -1,11 +1,12 @@
 //! A client at the door.
 
-ghost use Rattle.std.specs.Prelude.{◌≡◌, ◌≤◌, max, true, false, Some, length};
+ghost use Rattle.std.specs.Prelude.{◌≡◌, ◌≤◌, max, true, false, Some, length, is_some};
 ghost use Rattle.bx_office_door.specs.Guests.{IsGuestTold};
-ghost use Rattle.bx_office_door.specs.Patience.{patience_of, is_out_of_time, may_stand, is_watched};
+ghost use Rattle.bx_office_door.specs.Patience.{patience_of, is_out_of_time, may_stand, is_watched, StaysQuiet};
+ghost use Rattle.bx_office_door.specs.Waiting.{waits_for_answer};
 
 use crate::stream::{Came, Stream};
-use bx_office::{Client, Place, Reply, Route, Stage, crowded, page, too_slow};
+use bx_office::{Client, Eve, Place, Reply, Route, Stage, at_once, crowded, too_slow};
 use std::alloc::Global;
 
 /// How long a request takes at most, and how long the next one is waited for: 10 seconds, in nanoseconds.
@@ -86,6 +87,11 @@ impl Guest {
         self.is_gone
     }
 
+    /// Whether it has hung up: its side of the connection is closed.
+    pub fn has_hung_up(&self) -> bool {
+        self.stream.has_closed()
+    }
+
     /// The client.
     pub fn client(&self) -> &Client
         ensures { result.now ≡ self.now.client }
@@ -103,6 +109,7 @@ impl Guest {
 
     /// Reads once. Answers whether something came. With its first octet a request has its time before it.
     fn read(&mut self, now: u128) -> bool
+        ensures quiet { StaysQuiet self.old self.new }
         ensures number { self.new.number ≡ self.old.number }
         ensures kept { self.new.client.kept ≤ self.old.client.kept }
     {
@@ -128,8 +135,10 @@ impl Guest {
         }
     }
 
-    /// Answers what needs nothing of the day; and who came beyond the places, and asks for what is not for a monitor, by when to ask again.
-    fn reply(&mut self)
+    /// Answers what needs nothing of the day, and before it begins all else; and who came beyond the places, and asks for what is not for a
+    /// monitor, by when to ask again.
+    fn reply(&mut self, eve: Option<Eve<'_>>)
+        ensures early { is_some eve.entry ≡ true → waits_for_answer self.new.client.stage ≡ false }
         ensures number { self.new.number ≡ self.old.number }
         ensures spare { may_stand self.new.is_spare self.new.client.stage ≡ true }
         ensures kept { self.new.client.kept ≤ self.old.client.kept }
@@ -139,14 +148,15 @@ impl Guest {
             return self.client.dismiss(crowded());
         }
         if let Stage::Asked(route) = stage
-            && let Some(reply) = page(route)
+            && let Some(reply) = at_once(route, eve)
         {
             self.client.answer(reply);
         }
     }
 
     /// Reads on in what came: of a body as many octets may be kept as are free.
-    fn advance(&mut self, free: usize)
+    fn advance(&mut self, free: usize, eve: Option<Eve<'_>>)
+        ensures early { is_some eve.entry ≡ true → waits_for_answer self.new.client.stage ≡ false }
         ensures number { self.new.number ≡ self.old.number }
         ensures spare { may_stand self.new.is_spare self.new.client.stage ≡ true }
         ensures kept { self.new.client.kept ≤ max self.old.client.kept free }
@@ -156,11 +166,12 @@ impl Guest {
                 break;
             }
         }
-        self.reply();
+        self.reply(eve);
     }
 
     /// Writes once. Answers whether something went.
     fn write(&mut self, now: u128) -> bool
+        ensures quiet { StaysQuiet self.old self.new }
         ensures number { self.new.number ≡ self.old.number }
         ensures kept { self.new.client.kept ≤ self.old.client.kept }
     {
@@ -186,6 +197,7 @@ impl Guest {
 
     /// Throws away what still comes after the last answer. Answers whether something came.
     fn drain(&mut self) -> bool
+        ensures quiet { StaysQuiet self.old self.new }
         ensures number { self.new.number ≡ self.old.number }
         ensures kept { self.new.client.kept ≤ self.old.client.kept }
     {
@@ -205,7 +217,8 @@ impl Guest {
     }
 
     /// Moves once what is ready.
-    fn turn(&mut self, now: u128, free: usize) -> bool
+    fn turn(&mut self, now: u128, free: usize, eve: Option<Eve<'_>>) -> bool
+        ensures early { is_some eve.entry ≡ true → StaysQuiet self.old self.new }
         ensures number { self.new.number ≡ self.old.number }
         ensures kept { self.new.client.kept ≤ max self.old.client.kept free }
     {
@@ -213,7 +226,7 @@ impl Guest {
             return self.drain();
         }
         let has_read = self.read(now);
-        self.advance(free);
+        self.advance(free, eve);
         let has_written = self.write(now);
         has_read || has_written
     }
@@ -245,6 +258,7 @@ impl Guest {
 
     /// Gives the client up. Where the rest of a body is due it is told so, and has the time to read that.
     fn give_up(&mut self, now: u128)
+        ensures quiet { StaysQuiet self.old self.new }
         ensures number { self.new.number ≡ self.old.number }
         ensures kept { self.new.client.kept ≤ self.old.client.kept }
     {
@@ -257,12 +271,13 @@ impl Guest {
     }
 
     /// Moves what is ready, as often as something is.
-    fn go_on(&mut self, now: u128, free: usize)
+    fn go_on(&mut self, now: u128, free: usize, eve: Option<Eve<'_>>)
+        ensures early { is_some eve.entry ≡ true → StaysQuiet self.old self.new }
         ensures number { self.new.number ≡ self.old.number }
         ensures kept { self.new.client.kept ≤ max self.old.client.kept free }
     {
         for _turn in 0..TURNS {
-            if self.is_gone || !self.turn(now, free) {
+            if self.is_gone || !self.turn(now, free, eve) {
                 return;
             }
         }
@@ -281,13 +296,15 @@ impl Guest {
     }
 
     /// Moves what is ready, and never waits; of a body as many octets may be kept as are free. Whoever asks again at the last moment is heard
-    /// before it is sent away.
-    pub fn attend(&mut self, now: u128, is_full: bool, free: usize)
+    /// before it is sent away, and nobody waits for an answer before the day begins.
+    pub fn attend(&mut self, now: u128, is_full: bool, free: usize, eve: Option<Eve<'_>>)
+        ensures early { is_some eve.entry ≡ true → waits_for_answer self.new.client.stage ≡ false }
         ensures number { self.new.number ≡ self.old.number }
         ensures kept { self.new.client.kept ≤ max self.old.client.kept free }
     {
         self.note(now, is_full);
-        self.go_on(now, free);
+        self.reply(eve);
+        self.go_on(now, free, eve);
         if self.is_late(now, is_full) {
             self.give_up(now);
         }
@@ -309,7 +326,7 @@ fn is_watched(route: Route) -> bool
     ensures { result ≡ is_watched route }
 {
     match route {
-        Route::Health | Route::Metrics => true,
+        Route::Health | Route::Ready | Route::Metrics => true,
         _ => false,
     }
 }

@@ -6,7 +6,8 @@ ghost use Rattle.bx_office_door.specs.Streams.{IsCome};
 use std::io;
 use std::io::{ErrorKind, Read, Write};
 use std::net::{Net, Shutdown, TcpListener, TcpStream};
-use std::os::unix::net::{UnixListener, UnixStream};
+use std::os::fd::OwnedFd;
+use std::os::unix::net::UnixListener;
 
 /// What a socket has.
 #[derive(Clone, Copy, Debug, PartialEq, Eq)]
@@ -19,12 +20,9 @@ pub enum Came {
     End,
 }
 
-/// A connection that never waits.
+/// A connection that never waits. One at a path is held as one at a port is, which can look at what is there without taking it.
 #[derive(Drop)]
-pub enum Stream {
-    Port(TcpStream),
-    Path(UnixStream),
-}
+pub struct Stream(TcpStream);
 
 /// What a read or a write came to.
 fn came_of(done: io::Result<usize>) -> Came
@@ -45,28 +43,25 @@ impl Stream {
     pub fn receive(&mut self, room: &mut [u8]) -> Came
         ensures { IsCome result (length room.new) }
     {
-        match self {
-            Stream::Port(stream) => came_of(stream.read(room)),
-            Stream::Path(stream) => came_of(stream.read(room)),
-        }
+        came_of(self.0.read(room))
     }
 
     /// Writes what there is room for.
     pub fn send(&mut self, octets: &[u8]) -> Came
         ensures { IsCome result (length octets.now) }
     {
-        match self {
-            Stream::Port(stream) => came_of(stream.write(octets)),
-            Stream::Path(stream) => came_of(stream.write(octets)),
-        }
+        came_of(self.0.write(octets))
     }
 
     /// Says that nothing more is written.
     pub fn shut(&self) {
-        let _ = match self {
-            Stream::Port(stream) => stream.shutdown(Shutdown::Write),
-            Stream::Path(stream) => stream.shutdown(Shutdown::Write),
-        };
+        let _ = self.0.shutdown(Shutdown::Write);
+    }
+
+    /// Whether the other side has closed its own, or the socket failed. Nothing is taken of what is there to be read.
+    pub fn has_closed(&self) -> bool {
+        let mut room = [0u8; 1];
+        matches!(came_of(self.0.peek(&mut room)), Came::End)
     }
 }
 
@@ -94,12 +89,12 @@ impl Listening {
             Listening::Port(listener) => {
                 let (stream, _) = listener.accept().ok()?;
                 stream.set_nonblocking(true).ok()?;
-                Some(Stream::Port(stream))
+                Some(Stream(stream))
             }
             Listening::Path(listener) => {
                 let (stream, _) = listener.accept().ok()?;
                 stream.set_nonblocking(true).ok()?;
-                Some(Stream::Path(stream))
+                Some(Stream(TcpStream::from(OwnedFd::from(stream))))
             }
         }
     }

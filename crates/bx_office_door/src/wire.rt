@@ -4,6 +4,7 @@ ghost use Rattle.std.specs.Prelude.{◌≡◌, ◌≤◌, ◌∷◌, [], ℕ, Li
 ghost use Rattle.bx_line_world.specs.Wires.{WireAct, Waited, came_in};
 ghost use Rattle.bx_office_door.specs.Inside.{did_inside_more};
 ghost use Rattle.bx_office_door.specs.Sliced.{slice_at_once, DidInside};
+ghost use Rattle.bx_office_door.specs.Hearing.{is_heard};
 
 use crate::door::Door;
 use bx_line_world::Wire;
@@ -12,6 +13,9 @@ use std::rc::Rc;
 
 /// A slice of a wait for a frame, after which the door is looked at again, in nanoseconds.
 const SLICE: u64 = 10_000_000;
+
+/// How long after a frame the other end counts as heard, in nanoseconds: on a link that is idle each end is asked after 10 seconds.
+const HEARD: u128 = 15_000_000_000;
 
 /// How long a frame is waited for at once. A system lengthens what it is given by some milliseconds, so the last two slices are one wait: it
 /// ends when a wait without a door would.
@@ -28,6 +32,18 @@ pub struct OfficeWire<W> {
     door: Rc<RefCell<Door>>,
     /// What the clock showed last.
     shown: u128,
+    /// What it showed when the last frame came.
+    heard: Option<u128>,
+}
+
+/// Whether a frame has come of late, by what the clock shows now.
+fn is_heard(heard: Option<u128>, shown: u128) -> bool
+    ensures { result ≡ is_heard heard shown }
+{
+    match heard {
+        Some(heard) => shown.saturating_sub(heard) <= HEARD,
+        None => false,
+    }
 }
 
 impl<W> OfficeWire<W> {
@@ -39,6 +55,7 @@ impl<W> OfficeWire<W> {
             wire,
             door,
             shown: 0,
+            heard: None,
         }
     }
 }
@@ -47,7 +64,7 @@ impl<W> OfficeWire<W> {
     /// Moves what is ready at the door.
     fn attend(&self) {
         if let Ok(mut door) = self.door.try_borrow_mut() {
-            door.attend(self.shown);
+            door.attend(self.shown, is_heard(self.heard, self.shown));
         }
     }
 }
@@ -67,7 +84,11 @@ impl<W: Wire> Wire for OfficeWire<W> {
     /// Attends the door, and waits for one slice of the time. Whoever waits for more looks at the clock, and calls again.
     fn receive(&mut self, room: &mut [u8], wait: u64) -> Option<usize> {
         self.attend();
-        self.wire.receive(room, slice_of(wait))
+        let came = self.wire.receive(room, slice_of(wait));
+        if came.is_some() {
+            self.heard = Some(self.shown);
+        }
+        came
     }
 
     ghost did_nothing = { λ s. W.did_nothing s.wire };

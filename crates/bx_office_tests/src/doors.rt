@@ -3,24 +3,35 @@
 use bx_office::{Allowed, Kind, Place, Reply, Route, Status};
 use bx_office_door::{Door, Listening};
 use std::alloc::Global;
+use std::fs::remove_file;
 use std::io;
 use std::io::{Read, Write};
 use std::net::{Net, TcpListener, TcpStream};
+use std::os::unix::net::{UnixListener, UnixStream};
 use std::test::Fail;
 use std::time::Duration;
 
 /// A second, in nanoseconds.
 const SECOND: u128 = 1_000_000_000;
 
-/// A door at a port that the system has chosen, and the port.
+/// A door at a port that the system has chosen, and the port. Its day has begun.
 fn opened<H: Net<Listener = TcpListener, Stream = TcpStream>>(
     rt: &H,
     alloc: Global,
 ) -> io::Result<(Door, u16)> {
+    opened_until(rt, alloc, 0)
+}
+
+/// The same for a day that begins then.
+fn opened_until<H: Net<Listener = TcpListener, Stream = TcpStream>>(
+    rt: &H,
+    alloc: Global,
+    opens: u128,
+) -> io::Result<(Door, u16)> {
     let listener = TcpListener::bind(rt, "127.0.0.1:0")?;
     listener.set_nonblocking(true)?;
     let port = listener.local_addr()?.port();
-    let door = Door::new(alloc, Place::Port(port), Listening::Port(listener));
+    let door = Door::new(alloc, Place::Port(port), Listening::Port(listener), opens);
     Ok((door, port))
 }
 
@@ -48,7 +59,7 @@ fn request(alloc: Global, path: &str, port: u16) -> Result<Vec<u8>, Fail> {
 fn begins(door: &mut Door, stream: &mut TcpStream, now: u128, prefix: &[u8]) -> bool {
     let mut room = [0u8; 4096];
     for _turn in 0..50u32 {
-        door.attend(now);
+        door.attend(now, false);
         match stream.read(&mut room) {
             Ok(count) => return count >= prefix.len() && &room[..prefix.len()] == prefix,
             Err(_) => {}
@@ -60,7 +71,7 @@ fn begins(door: &mut Door, stream: &mut TcpStream, now: u128, prefix: &[u8]) -> 
 /// Attends the door until somebody asks: what is asked for, which is answered.
 fn asks(door: &mut Door, now: u128) -> Option<Route> {
     for _turn in 0..1000u32 {
-        door.attend(now);
+        door.attend(now, false);
         if let Some((number, route)) = door.asked() {
             door.answer(
                 number,
@@ -117,7 +128,7 @@ fn a_slow_client_is_sent_away(rt: HostRuntime) -> Result<(), Fail> {
     let (mut door, port) = opened(&rt, rt.alloc())?;
     let mut slow = client(&rt, port, b"GET /plan HTTP/1.1\r\n")?;
     for _turn in 0..100u32 {
-        door.attend(0);
+        door.attend(0, false);
     }
     let sent = request(rt.alloc(), "/", port)?;
     let mut quick = client(&rt, port, &sent)?;
@@ -158,11 +169,11 @@ fn a_request_has_its_time_from_its_first_octet(rt: HostRuntime) -> Result<(), Fa
     let rest = format!(in rt.alloc(); " HTTP/1.1\r\nHost: localhost:{port}\r\n\r\n")?;
     let mut late = client(&rt, port, b"")?;
     for _turn in 0..100u32 {
-        door.attend(0);
+        door.attend(0, false);
     }
     late.write_all(b"GET /")?;
     for _turn in 0..100u32 {
-        door.attend(9 * SECOND);
+        door.attend(9 * SECOND, false);
     }
     late.write_all(rest.as_bytes())?;
     assert!(rt;
@@ -183,7 +194,7 @@ fn a_body_that_comes_slowly_has_more_time(rt: HostRuntime) -> Result<(), Fail> {
         slow.write_all(&[b'1'; 4096])?;
     }
     for _turn in 0..100u32 {
-        door.attend(0);
+        door.attend(0, false);
     }
     assert!(rt;
         !begins(&mut door, &mut slow, 11 * SECOND, b""),
@@ -234,7 +245,7 @@ fn silent<H: Net<Listener = TcpListener, Stream = TcpStream>>(
         clients.push(client(rt, port, b"")?)?;
     }
     for _turn in 0..100u32 {
-        door.attend(0);
+        door.attend(0, false);
     }
     Ok(clients)
 }
@@ -273,7 +284,7 @@ fn a_hundred_silent_ones_hold_the_door_for_two_seconds(rt: HostRuntime) -> Resul
     let sent = request(rt.alloc(), "/", port)?;
     let mut last = client(&rt, port, &sent)?;
     for _turn in 0..20u32 {
-        door.attend(2 * SECOND);
+        door.attend(2 * SECOND, false);
     }
     assert!(rt; !begins(&mut door, &mut last, 2 * SECOND, b""), "it waits");
     assert!(rt;
@@ -332,5 +343,202 @@ fn eight_long_bodies_are_kept_at_a_time(rt: HostRuntime) -> Result<(), Fail> {
         ),
         "one has left"
     );
+    Ok(())
+}
+
+/// What who asks before the day begins is answered: the name of the case, the path, whether the other end was heard, how the answer begins, and
+/// how it ends.
+type Early = (&'static str, &'static str, bool, &'static str, &'static str);
+
+static EARLY: [Early; 10] = [
+    ("the page", "/", true, "HTTP/1.1 200 OK\r\n", "</html>\n"),
+    (
+        "health with a link",
+        "/healthz",
+        true,
+        "HTTP/1.1 200 OK\r\n",
+        "\r\n\r\nnot begun\nlink up\nlate seconds 0\nchannels in maintenance 0\n",
+    ),
+    (
+        "health without one",
+        "/healthz",
+        false,
+        "HTTP/1.1 200 OK\r\n",
+        "\r\n\r\nnot begun\nlink none\nlate seconds 0\nchannels in maintenance 0\n",
+    ),
+    (
+        "figures",
+        "/metrics",
+        true,
+        "HTTP/1.1 200 OK\r\n",
+        "\r\n\r\n# EOF\n",
+    ),
+    (
+        "ready",
+        "/ready",
+        true,
+        "HTTP/1.1 503 Service Unavailable\r\n",
+        "\r\nretry-after: 7\r\ncontent-length: 22\r\n\r\nthe day has not begun\n",
+    ),
+    (
+        "the plan",
+        "/plan",
+        true,
+        "HTTP/1.1 503 Service Unavailable\r\n",
+        "\r\nretry-after: 7\r\ncontent-length: 22\r\n\r\nthe day has not begun\n",
+    ),
+    (
+        "a quote",
+        "/quote?start=2026-01-05T00:00:10Z",
+        true,
+        "HTTP/1.1 503 Service Unavailable\r\n",
+        "\r\nretry-after: 7\r\ncontent-length: 22\r\n\r\nthe day has not begun\n",
+    ),
+    (
+        "the outcomes",
+        "/outcomes",
+        true,
+        "HTTP/1.1 503 Service Unavailable\r\n",
+        "\r\nretry-after: 7\r\ncontent-length: 22\r\n\r\nthe day has not begun\n",
+    ),
+    (
+        "the records",
+        "/records",
+        true,
+        "HTTP/1.1 503 Service Unavailable\r\n",
+        "\r\nretry-after: 7\r\ncontent-length: 22\r\n\r\nthe day has not begun\n",
+    ),
+    (
+        "the picture",
+        "/chart.svg",
+        true,
+        "HTTP/1.1 503 Service Unavailable\r\n",
+        "\r\nretry-after: 7\r\ncontent-length: 22\r\n\r\nthe day has not begun\n",
+    ),
+];
+
+/// Attends the door until the client has something: whether what it has begins and ends so.
+fn is_told(
+    door: &mut Door,
+    stream: &mut TcpStream,
+    now: u128,
+    is_heard: bool,
+    ends: (&str, &str),
+) -> bool {
+    let mut room = [0u8; 8192];
+    for _turn in 0..50u32 {
+        door.attend(now, is_heard);
+        match stream.read(&mut room) {
+            Ok(count) if count <= 8192 => {
+                let text = &room[..count];
+                return text.starts_with(ends.0.as_bytes()) && text.ends_with(ends.1.as_bytes());
+            }
+            _ => {}
+        }
+    }
+    false
+}
+
+#[test]
+fn before_the_day_all_are_answered_at_once(rt: HostRuntime) -> Result<(), Fail> {
+    let (mut door, port) = opened_until(&rt, rt.alloc(), 10 * SECOND)?;
+    let mut figures = Vec::new(rt.alloc());
+    figures.extend_from_slice(b"# EOF\n")?;
+    door.keep_figures(Some(figures));
+    for early in &EARLY {
+        let sent = request(rt.alloc(), early.1, port)?;
+        let mut stream = client(&rt, port, &sent)?;
+        assert!(rt;
+            is_told(
+                &mut door,
+                &mut stream,
+                3 * SECOND + 1,
+                early.2,
+                (early.3, early.4)
+            ),
+            "{}",
+            early.0
+        );
+        assert!(rt; door.asked().is_none(), "{} waits", early.0);
+    }
+    assert!(rt; door.answers() == 0, "none is of the day");
+    Ok(())
+}
+
+#[test]
+fn once_the_day_has_begun_a_request_waits(rt: HostRuntime) -> Result<(), Fail> {
+    let (mut door, port) = opened_until(&rt, rt.alloc(), 10 * SECOND)?;
+    let sent = request(rt.alloc(), "/plan", port)?;
+    let _stream = client(&rt, port, &sent)?;
+    assert!(rt; asks(&mut door, 10 * SECOND) == Some(Route::Plan), "asked");
+    Ok(())
+}
+
+#[test]
+fn figures_that_are_not_kept_are_put_off(rt: HostRuntime) -> Result<(), Fail> {
+    let (mut door, port) = opened_until(&rt, rt.alloc(), 10 * SECOND)?;
+    let sent = request(rt.alloc(), "/metrics", port)?;
+    let mut stream = client(&rt, port, &sent)?;
+    assert!(rt;
+        is_told(
+            &mut door,
+            &mut stream,
+            9 * SECOND + 1,
+            false,
+            (
+                "HTTP/1.1 503 Service Unavailable\r\n",
+                "\r\nretry-after: 1\r\ncontent-length: 22\r\n\r\nthe day has not begun\n"
+            )
+        ),
+        "put off"
+    );
+    Ok(())
+}
+
+/// Attends the door until somebody asks: the number of who does.
+fn who_asks(door: &mut Door) -> Option<u64> {
+    for _turn in 0..1000u32 {
+        door.attend(0, false);
+        if let Some((number, _)) = door.asked() {
+            return Some(number);
+        }
+    }
+    None
+}
+
+#[test]
+fn who_has_hung_up_is_no_customer(rt: HostRuntime) -> Result<(), Fail> {
+    let (mut door, port) = opened(&rt, rt.alloc())?;
+    let sent = request(rt.alloc(), "/plan", port)?;
+    let one = client(&rt, port, &sent)?;
+    assert!(rt; who_asks(&mut door) == Some(1), "it asks");
+    assert!(rt;
+        door.customer(1).map(|customer| customer.number()) == Some(1),
+        "it is there"
+    );
+    drop(one);
+    assert!(rt; door.customer(1).is_none(), "it is there no more");
+    assert!(rt; door.client(1).is_none(), "it is sent away");
+    assert!(rt; door.customer(1).is_none(), "nobody is there");
+    Ok(())
+}
+
+#[test]
+fn who_has_hung_up_at_a_path_is_no_customer(rt: HostRuntime) -> Result<(), Fail> {
+    let path = format!(in rt.alloc(); "bx-hung-up.sock")?;
+    let _ = remove_file(&rt, path.as_str());
+    let listener = UnixListener::bind(&rt, path.as_str())?;
+    listener.set_nonblocking(true)?;
+    let mut door = Door::new(rt.alloc(), Place::Socket, Listening::Path(listener), 0);
+    let mut one = UnixStream::connect(&rt, path.as_str())?;
+    one.write_all(b"GET /plan HTTP/1.1\r\nHost: localhost\r\n\r\n")?;
+    assert!(rt; who_asks(&mut door) == Some(1), "it asks");
+    assert!(rt;
+        door.customer(1).map(|customer| customer.number()) == Some(1),
+        "it is there"
+    );
+    drop(one);
+    assert!(rt; door.customer(1).is_none(), "it is there no more");
+    let _ = remove_file(&rt, path.as_str());
     Ok(())
 }

@@ -18,7 +18,7 @@ const PORT: Place = Place::Port(8080);
 
 const FOUND: Refusal = Refusal::NotFound;
 
-static CASES: [Case; 46] = [
+static CASES: [Case; 47] = [
     (
         "home",
         PORT,
@@ -108,6 +108,16 @@ static CASES: [Case; 46] = [
         "",
         "",
         Ok(Route::Health),
+    ),
+    (
+        "ready",
+        PORT,
+        "GET",
+        "/ready",
+        "localhost:8080",
+        "",
+        "",
+        Ok(Route::Ready),
     ),
     (
         "a query",

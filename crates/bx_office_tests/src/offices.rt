@@ -30,7 +30,7 @@ fn opened<H: Net<Listener = TcpListener, Stream = TcpStream>>(
     let listener = TcpListener::bind(rt, "127.0.0.1:0")?;
     listener.set_nonblocking(true)?;
     let port = listener.local_addr()?.port();
-    let door = Door::new(alloc, Place::Port(port), Listening::Port(listener));
+    let door = Door::new(alloc, Place::Port(port), Listening::Port(listener), 0);
     match Rc::new(alloc, RefCell::new(door)) {
         Ok(door) => Ok((door, port)),
         Err(_) => Err(io::Error::from(io::ErrorKind::OutOfMemory)),
@@ -209,18 +209,21 @@ fn what_is_short_or_after_the_day_is_told(rt: HostRuntime) -> Result<(), Fail> {
 }
 
 #[test]
-fn who_left_is_told_by_nobody_else(rt: HostRuntime) -> Result<(), Fail> {
+fn who_has_hung_up_is_not_sold_to(rt: HostRuntime) -> Result<(), Fail> {
     let alloc = rt.alloc();
     let (door, port) = opened(&rt, alloc)?;
     let customer = client(&rt, alloc, port, "POST /bookings", BATCH)?;
     drop(customer);
     let mut another = client(&rt, alloc, port, "GET /healthz", "\r\n")?;
-    assert!(rt; ran(alloc, &door, QUIET) == Some((4, 2, 2)), "sold");
+    assert!(rt;
+        ran(alloc, &door, QUIET) == Some((2, 0, 0)),
+        "nothing is sold"
+    );
     assert!(rt;
         is_told_so(
             &mut another,
             "HTTP/1.1 200 OK\r\ndate: Thu, 01 Jan 1970 00:00:01 GMT\r\ncontent-type: text/plain",
-            "\r\ncontent-length: 0\r\n\r\n"
+            "\r\n\r\nin time\nlink none\nlate seconds 0\nchannels in maintenance 0\n"
         ),
         "told its own"
     );
@@ -362,7 +365,7 @@ fn a_late_second_is_told(rt: HostRuntime) -> Result<(), Fail> {
         is_told_so(
             &mut asking,
             "HTTP/1.1 503 Service Unavailable\r\n",
-            "\r\n\r\nlate\n"
+            "\r\n\r\nlate\nlink none\nlate seconds 1\nchannels in maintenance 0\n"
         ),
         "late"
     );
@@ -407,5 +410,86 @@ fn a_picture_is_drawn(rt: HostRuntime) -> Result<(), Fail> {
         ),
         "a picture"
     );
+    Ok(())
+}
+
+/// Whether a call could be carried: the name of the case, how the seconds begin, the last second of the day, the channels in service, how the
+/// answer begins, and how it ends.
+type Ready = (
+    &'static str,
+    Begin,
+    u32,
+    &'static [u8],
+    &'static str,
+    &'static str,
+);
+
+static READY: [Ready; 5] = [
+    (
+        "ready",
+        Begin::Joined,
+        600,
+        &[1, 2, 3],
+        "HTTP/1.1 200 OK\r\n",
+        "\r\n\r\nready\n",
+    ),
+    (
+        "without a link",
+        Begin::Alone,
+        600,
+        &[1, 2, 3],
+        "HTTP/1.1 503 Service Unavailable\r\n",
+        "\r\nretry-after: 1\r\ncontent-length: 8\r\n\r\nno link\n",
+    ),
+    (
+        "late",
+        Begin::Late,
+        600,
+        &[1, 2, 3],
+        "HTTP/1.1 503 Service Unavailable\r\n",
+        "\r\n\r\nno link\n",
+    ),
+    (
+        "without a channel",
+        Begin::Joined,
+        600,
+        &[],
+        "HTTP/1.1 503 Service Unavailable\r\n",
+        "\r\n\r\nno channel\n",
+    ),
+    (
+        "in the last second",
+        Begin::Joined,
+        1,
+        &[1, 2, 3],
+        "HTTP/1.1 503 Service Unavailable\r\n",
+        "\r\n\r\nthe day is over\n",
+    ),
+];
+
+/// Runs a day of four seconds that begin so, with an office that is opened for channels until a last second.
+fn ran_until(alloc: Global, door: &Rc<RefCell<Door>>, ready: &Ready) -> Option<Ran> {
+    let opened = Opened {
+        channels: ChannelSet::from_numbers(ready.3).ok()?,
+        day: Day::new("2026-01-05", "UTC0").ok()?,
+        last: ready.2,
+        clock: None,
+    };
+    let run = Run {
+        begin: ready.1,
+        ..QUIET
+    };
+    ran_with(alloc, door, &opened, exchange_of(alloc, &ROWS)?, run)
+}
+
+#[test]
+fn whether_a_call_could_be_carried_is_told(rt: HostRuntime) -> Result<(), Fail> {
+    let alloc = rt.alloc();
+    for ready in &READY {
+        let (door, port) = opened(&rt, alloc)?;
+        let mut asking = client(&rt, alloc, port, "GET /ready", "\r\n")?;
+        assert!(rt; ran_until(alloc, &door, ready).is_some(), "{}", ready.0);
+        assert!(rt; is_told_so(&mut asking, ready.4, ready.5), "{}", ready.0);
+    }
     Ok(())
 }

@@ -49,7 +49,7 @@ impl<'a> QuietWorld<'a> {
     fn attend(&self) {
         if let Ok(mut door) = self.door.try_borrow_mut() {
             for _turn in 0..100u32 {
-                door.attend(self.now);
+                door.attend(self.now, false);
             }
         }
     }

@@ -52,7 +52,7 @@ fn beside<H: Net<Listener = TcpListener, Stream = TcpStream>>(
     alloc: Global,
 ) -> Result<OfficeWire<QuietWire>, Fail> {
     let listening = Listening::at_port(rt, 0)?;
-    let door = Door::new(alloc, Place::Port(0), listening);
+    let door = Door::new(alloc, Place::Port(0), listening, 0);
     let shared = Rc::new(alloc, RefCell::new(door))?;
     Ok(OfficeWire::new(QuietWire { waited: 0 }, shared))
 }

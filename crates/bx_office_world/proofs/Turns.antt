@@ -1,12 +1,12 @@
 -- Who waits is answered, one after another.
-use Rattle.std.proofs.Common.{◌≡◌, refl, sym, subst, ap, ◌∙◌, inl, inr, ℕ, ◌+◌, ◌≤◌, List, [], ◌∷◌, ◌++◌, length, Some, None, arith, length-append}
+use Rattle.std.proofs.Common.{◌≡◌, refl, sym, subst, ap, ◌∙◌, inl, inr, ℕ, ◌+◌, ◌≤◌, List, [], ◌∷◌, ◌++◌, length, Option, Some, None, arith, length-append}
 use Rattle.bx_base.specs.Bookings.{Row}
 use Rattle.bx_day.specs.Day.{Day}
 use Rattle.bx_office.specs.declared.gate.Route.{Route}
 use Rattle.bx_office.specs.declared.gate.Route.TheVariants as routes
 use Rattle.bx_office_door.specs.Guests.{first_asked}
 use Rattle.bx_office_door.specs.declared.guest.Guest.{Guest}
-use Rattle.bx_office_world.specs.Serving.{IsServed, IsTurn, AreServed, IsBatchRead, IsServing, IsBatchOf}
+use Rattle.bx_office_world.specs.Serving.{IsServed, IsTurn, AreServed, IsNotSold, IsBatchTaken, IsServing, IsBatchOf, IsTakenBatch}
 use Rattle.bx_office_world.specs.declared.serving.Desk.{Desk}
 use Rattle.bx_office_world.specs.declared.serving.Selling.{Selling}
 
@@ -43,15 +43,23 @@ pub enough_served : (desk : Desk) (d : Day) (old new : List Guest) → SoFar des
 enough_served desk d old new s = record { told = s.told; few = omega (arith, s.many); served = s.served; next = inr s.many }
 
 -- the next batch is to be sold
-pub batch_next : (desk : Desk) (d : Day) (count : ℕ) (old mid new : List Guest) (selling : Selling) (offered : List Row) → count ≤ 16 → SoFar desk d count old mid → first_asked mid ≡ Some (selling.number, routes.Bookings) → selling.rows ≡ length d.entries
-    → new ≡ mid → IsBatchOf desk selling.number mid selling.wanted offered → IsServing desk d old new (Some (selling, offered))
-batch_next desk d count old mid new selling offered le s f rows same b = record {
+pub batch_next : (desk : Desk) (d : Day) (count : ℕ) (old mid new : List Guest) (number : ℕ) (rows : ℕ) (selling : Selling) (offered : List Row) → count ≤ 16 → SoFar desk d count old mid → first_asked mid ≡ Some (number, routes.Bookings) → rows ≡ length d.entries
+    → new ≡ mid → IsTakenBatch desk rows number mid selling offered → IsServing desk d old new (Some (selling, offered))
+batch_next desk d count old mid new number rows selling offered le s f many same n = record {
   told = s.told;
   few = omega (arith, s.many);
   served = subst (λ (gs : List Guest). AreServed desk d s.told old gs) (sym same) s.served;
-  next = (ap first_asked same ∙ f, rows, subst (λ (gs : List Guest). IsBatchOf desk selling.number gs selling.wanted offered) (sym same) b);
+  next = (
+    ap first_asked same ∙ f ∙ ap (λ (x : ℕ). Some (x, routes.Bookings)) (sym n.customer),
+    n.rows_are ∙ many,
+    subst (λ (gs : List Guest). IsBatchOf desk selling.customer.number gs selling.wanted offered) (sym same) (subst (λ (x : ℕ). IsBatchOf desk x mid selling.wanted offered) (sym n.customer) n.batch),
+  );
 }
 
--- a request whose bookings have a fault
-pub turn_of_bookings : (desk : Desk) (d : Day) (number : ℕ) (route : Route) (old new : List Guest) → route ≡ routes.Bookings → IsBatchRead desk number old new None → IsTurn desk d number route old new
+-- nothing is taken
+pub not_taken : (desk : Desk) (rows number : ℕ) (old new : List Guest) (r : Option (Selling × List Row)) → r ≡ None → IsBatchTaken desk rows number old new r → IsNotSold desk number old new
+not_taken desk rows number old new r is taken = subst (λ (x : Option (Selling × List Row)). IsBatchTaken desk rows number old new x) is taken
+
+-- a request whose bookings have a fault, or whose customer has hung up
+pub turn_of_bookings : (desk : Desk) (d : Day) (number : ℕ) (route : Route) (old new : List Guest) → route ≡ routes.Bookings → IsNotSold desk number old new → IsTurn desk d number route old new
 turn_of_bookings desk d number route old new is b = subst (λ (r : Route). IsTurn desk d number r old new) (sym is) b

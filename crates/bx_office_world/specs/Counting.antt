@@ -18,15 +18,11 @@ use Rattle.bx_q931.specs.declared.kind.Kind.TheVariants as kinds
 abbrev pub count_one_more : ℕ → ℕ
 count_one_more n = min (n + 1) 18446744073709551615
 
--- a second by how it begins
+-- a second by how it begins, which is kept
 abbrev pub begin_counted : Begin → Figures → Figures
-begin_counted begins.Alone f = record f { alone = count_one_more f.alone }
-begin_counted begins.Late f = record f { late = count_one_more f.late }
-begin_counted _ f = f
-
-abbrev pub is_late : Begin → Bool
-is_late begins.Late = true
-is_late _ = false
+begin_counted begins.Alone f = record f { begun = Some begins.Alone; alone = count_one_more f.alone }
+begin_counted begins.Late f = record f { begun = Some begins.Late; late = count_one_more f.late }
+begin_counted begin f = record f { begun = Some begin }
 
 abbrev pub is_without_link : Begin → Bool
 is_without_link begins.Alone = true

@@ -1,6 +1,7 @@
 -- What stands at each path now.
 use Rattle.std.specs.Prelude.{◌≡◌, ◌⊎◌, ℕ, List, []}
 use Rattle.bx_office_world.specs.Answers.{IsPlanText, IsNoPromisedPlan, IsNoRecords}
+use Rattle.bx_office_world.specs.Health.{health_text, ready_now, ready_words}
 use Rattle.bx_office_world.specs.Metrics.{metrics_text}
 use Rattle.bx_office_world.specs.Quotes.{IsCallOfQuery, IsNoCallOfQuery, IsQuoteText, IsNoQuoteText}
 use Rattle.bx_office_world.specs.declared.fault.NoAnswer.{NoAnswer}
@@ -34,6 +35,8 @@ IsWritten opened d figures sight query routes.Records kind text = (kind ≡ kind
 IsWritten opened d figures sight query routes.Quote kind text = (kind ≡ kinds.Text) × IsQuoteAnswered opened query d.entries text
 IsWritten opened d figures sight query routes.Chart kind text = (kind ≡ kinds.Picture) × IsDayChart d opened.channels sight opened.clock text
 IsWritten opened d figures sight query routes.Metrics kind text = (kind ≡ kinds.Metrics) × (text ≡ metrics_text d figures)
+IsWritten opened d figures sight query routes.Health kind text = (kind ≡ kinds.Text) × (text ≡ health_text d figures)
+IsWritten opened d figures sight query routes.Ready kind text = (kind ≡ kinds.Text) × (text ≡ ready_words (ready_now opened d figures))
 IsWritten opened d figures sight query _ kind text = (kind ≡ kinds.Text) × (text ≡ [])
 
 -- why there is no quote: the query names no call, or there is none for the call that it names
@@ -48,4 +51,6 @@ IsUnanswered opened d query routes.Records why = IsNoRecords opened.clock why
 IsUnanswered opened d query routes.Quote why = IsQuoteUnanswered opened query d.entries why
 IsUnanswered opened d query routes.Chart why = why ≡ Memory
 IsUnanswered opened d query routes.Metrics why = why ≡ Memory
+IsUnanswered opened d query routes.Health why = why ≡ Memory
+IsUnanswered opened d query routes.Ready why = why ≡ Memory
 IsUnanswered opened d query _ why = ⊥

@@ -5,6 +5,8 @@ pub mod Dealt
 pub mod Uncounted
 pub mod Answers
 pub mod Maintenance
+pub mod Health
+pub mod Statuses
 pub mod Metrics
 pub mod Quotes
 pub mod Sold

@@ -1,5 +1,6 @@
 -- Private: what each is told who waits at the door.
-use Rattle.std.specs.Prelude.{◌≡◌, ◌⊎◌, ℕ, ◌≤◌, Bool, true, false, List, [], ◌∷◌, length, codes, Option, Some, None}
+use Rattle.std.specs.Prelude.{◌≡◌, ◌⊎◌, ℕ, ◌≤◌, Bool, true, false, List, [], ◌∷◌, length, codes, Option, Some, None, IfSome, Vec}
+use Rattle.std.specs.declared.alloc.Global.{Global}
 use Rattle.bx_office_world.specs.Offered.{within_day}
 use Rattle.bx_office_world.specs.Sold.{sold_text}
 use Rattle.bx_office_world.specs.declared.fault.NoAnswer.{NoAnswer}
@@ -21,8 +22,12 @@ use Rattle.bx_office.specs.declared.reply.Kind.TheVariants as kinds
 use Rattle.bx_office.specs.declared.reply.Reply.{Reply}
 use Rattle.bx_office.specs.declared.reply.Status.{Status}
 use Rattle.bx_office.specs.declared.reply.Status.TheVariants as statuses
-use Rattle.bx_office_door.specs.Guests.{client_of, first_asked, IsAnswered, IsAnsweredThere}
+use Rattle.bx_office_door.specs.Guests.{client_of, first_asked, IsAnswered, IsAnsweredThere, IsSentAway}
+use Rattle.bx_office_door.specs.Doors.{is_early}
+use Rattle.bx_office_door.specs.declared.door.Door.{Door}
 use Rattle.bx_office_door.specs.declared.guest.Guest.{Guest}
+use Rattle.bx_office_world.specs.Statuses.{status_at}
+use Rattle.bx_office_world.specs.Metrics.{metrics_text}
 use Rattle.bx_office_world.specs.Desk.{IsWritten, IsUnanswered}
 use Rattle.bx_office_world.specs.declared.desk.Opened.{Opened}
 use Rattle.bx_office_world.specs.declared.serving.Batch.{Batch}
@@ -57,26 +62,21 @@ pub record IsRefusing (status : Status) (number : ℕ) (old new : List Guest) : 
 
 -- ---- a request that asks for nothing to be sold
 
-abbrev pub is_late_for : Bool → Route → Bool
-is_late_for is_late routes.Health = is_late
-is_late_for is_late _ = false
-
--- what stands at its path, by its query
+-- what stands at its path, by its query, and where a monitor asks for it the status says so too
 pub record IsShown (desk : Desk) (d : Day) (query : List ℕ) (route : Route) (reply : Reply) : Type 0 where
-  pub status : reply.status ≡ statuses.Fine
+  pub status : reply.status ≡ status_at desk.opened.now d desk.figures route
   pub allowed : reply.allowed ≡ methods.Unsaid
   pub written : IsWritten desk.opened.now d desk.figures (sight_of desk.sight) query route reply.kind reply.body.now
 
-abbrev pub IsReplyTo : Bool → Desk → Day → List ℕ → Route → Reply → Type 0
-IsReplyTo true desk d query route reply = IsPlain statuses.Unavailable reply × (reply.body.now ≡ codes "late\n")
-IsReplyTo false desk d query route reply = IsShown desk d query route reply ⊎ ((why : NoAnswer) × IsUnanswered desk.opened.now d query route why × IsPlain (reply_status_of why) reply)
+abbrev pub IsReplyTo : Desk → Day → List ℕ → Route → Reply → Type 0
+IsReplyTo desk d query route reply = IsShown desk d query route reply ⊎ ((why : NoAnswer) × IsUnanswered desk.opened.now d query route why × IsPlain (reply_status_of why) reply)
 
 -- just the client of this number is told it
 pub record IsServedThere (desk : Desk) (d : Day) (number : ℕ) (route : Route) (old new : List Guest) : Type 0 where
   pub client : Client
   pub there : client_of number old ≡ Some client
   pub reply : Reply
-  pub said : IsReplyTo (is_late_for desk.is_late route) desk d client.query.items route reply
+  pub said : IsReplyTo desk d client.query.items route reply
   pub answered : IsAnswered number reply old new
 
 -- .. where it is there; else all stand as they stood
@@ -113,10 +113,24 @@ abbrev pub IsBatchRead : Desk → ℕ → List Guest → List Guest → Option B
 IsBatchRead desk number old new None = ((client_of number old ≡ None) × (new ≡ old)) ⊎ IsFaulted desk number old new
 IsBatchRead desk number old new (Some batch) = (new ≡ old) × IsBatchOf desk number old batch.wanted batch.offered
 
+-- its body has a fault, or its client has hung up: nothing is sold
+abbrev pub IsNotSold : Desk → ℕ → List Guest → List Guest → Type 0
+IsNotSold desk number old new = IsBatchRead desk number old new None ⊎ IsSentAway number old new
+
+-- what is to be sold is of the customer of this number, whose socket was just looked at
+pub record IsTakenBatch (desk : Desk) (rows number : ℕ) (guests : List Guest) (selling : Selling) (offered : List Row) : Type 0 where
+  pub customer : selling.customer.number ≡ number
+  pub rows_are : selling.rows ≡ rows
+  pub batch : IsBatchOf desk number guests selling.wanted offered
+
+abbrev pub IsBatchTaken : Desk → ℕ → ℕ → List Guest → List Guest → Option (Selling × List Row) → Type 0
+IsBatchTaken desk rows number old new None = IsNotSold desk number old new
+IsBatchTaken desk rows number old new (Some next) = (new ≡ old) × IsTakenBatch desk rows number old next.0 next.1
+
 -- ---- who waits is answered, each in its turn
 
 abbrev pub IsTurn : Desk → Day → ℕ → Route → List Guest → List Guest → Type 0
-IsTurn desk d number routes.Bookings old new = IsBatchRead desk number old new None
+IsTurn desk d number routes.Bookings old new = IsNotSold desk number old new
 IsTurn desk d number route old new = IsServed desk d number route old new
 
 -- these were answered, each as the first whose request waited then, and nobody else
@@ -127,7 +141,7 @@ AreServed desk d (turn ∷ more) old new = (first_asked old ≡ Some turn) × (n
 -- what is offered next is of the batch of the first who waits then, which is kept with how many rows the plan has
 abbrev pub IsNextBatch : Desk → Day → List (ℕ × Route) → List Guest → Option (Selling × List Row) → Type 0
 IsNextBatch desk d told new None = (first_asked new ≡ None) ⊎ (length told ≡ 16)
-IsNextBatch desk d told new (Some next) = (first_asked new ≡ Some (next.0.number, routes.Bookings)) × (next.0.rows ≡ length d.entries) × IsBatchOf desk next.0.number new next.0.wanted next.1
+IsNextBatch desk d told new (Some next) = (first_asked new ≡ Some (next.0.customer.number, routes.Bookings)) × (next.0.rows ≡ length d.entries) × IsBatchOf desk next.0.customer.number new next.0.wanted next.1
 
 pub record IsServing (desk : Desk) (d : Day) (old new : List Guest) (result : Option (Selling × List Row)) : Type 0 where
   pub told : List (ℕ × Route)
@@ -145,4 +159,21 @@ IsSoldReply last selling answers reply = ((reply.status ≡ statuses.Fine) × (r
 pub record IsToldSold (last : ℕ) (selling : Selling) (answers : List Answer) (old new : List Guest) : Type 0 where
   pub reply : Reply
   pub is : IsSoldReply last selling answers reply
-  pub answered : IsAnsweredThere selling.number reply old new
+  pub answered : IsAnsweredThere selling.customer.number reply old new
+
+-- ---- before the day begins
+
+-- the figures of the day as it stands are kept for who asks, or there was no memory for them
+abbrev pub AreKeptFor : Desk → Day → Option (Vec ℕ Global) → Type 0
+AreKeptFor desk d figures = IfSome figures (λ text. text.items ≡ metrics_text d desk.figures)
+
+pub record IsPreparedFor (desk : Desk) (d : Day) (old new : Door) : Type 0 where
+  pub kept : AreKeptFor desk d new.figures
+  pub rest : new ≡ record old { figures = new.figures }
+
+abbrev pub IsPreparedWhere : Bool → Desk → Day → Door → Door → Type 0
+IsPreparedWhere true desk d old new = IsPreparedFor desk d old new
+IsPreparedWhere false desk d old new = new ≡ old
+
+abbrev pub IsPrepared : Desk → Day → Door → Door → Type 0
+IsPrepared desk d old new = IsPreparedWhere (is_early old) desk d old new

@@ -1,11 +1,12 @@
 -- What a new office has counted.
-use Rattle.std.specs.Prelude.{◌≡◌, replicate}
+use Rattle.std.specs.Prelude.{◌≡◌, replicate, None}
 use Rattle.bx_office_world.specs.declared.metrics.Figures.{Figures}
 
 -- nothing yet
 abbrev pub AreUncounted : Figures → Type 0
 AreUncounted f =
-    (f.answers ≡ 0)
+    (f.begun ≡ None)
+    × (f.answers ≡ 0)
     × (f.sold ≡ 0)
     × (f.alone ≡ 0)
     × (f.late ≡ 0)

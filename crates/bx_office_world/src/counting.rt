@@ -1,22 +1,12 @@
 //! What is counted while the day runs.
 
 ghost use Rattle.std.specs.Prelude.{◌≡◌, ◌-◌, ◌/◌, min, option_map};
-ghost use Rattle.bx_office_world.specs.Counting.{begin_counted, is_late, is_without_link, cleared_in, cleared, sold_in_batch, seconds_since};
+ghost use Rattle.bx_office_world.specs.Counting.{begin_counted, is_without_link, cleared_in, cleared, sold_in_batch, seconds_since};
 
 use crate::metrics::Figures;
 use bx_live::{Begin, SECOND};
 use bx_market::Answer;
 use bx_q931::{Kind, read};
-
-/// Whether a second begins late.
-pub(crate) fn is_late(begin: Begin) -> bool
-    ensures { result ≡ is_late begin }
-{
-    match begin {
-        Begin::Late => true,
-        Begin::Alone | Begin::Joined | Begin::Ended => false,
-    }
-}
 
 /// Whether a second goes by without a link.
 pub(crate) fn is_without_link(begin: Begin) -> bool
@@ -28,10 +18,11 @@ pub(crate) fn is_without_link(begin: Begin) -> bool
     }
 }
 
-/// Counts a second by how it begins.
+/// Counts a second by how it begins, and keeps that.
 pub(crate) fn count_begin(figures: &mut Figures, begin: Begin)
     ensures { figures.new ≡ begin_counted begin figures.old }
 {
+    figures.begun = Some(begin);
     match begin {
         Begin::Alone => figures.alone = figures.alone.saturating_add(1),
         Begin::Late => figures.late = figures.late.saturating_add(1),

@@ -7,6 +7,7 @@ ghost use Rattle.bx_office_world.specs.Desk.{IsQuoteAnswered, IsWritten, IsQuote
 
 use crate::drawing::chart_text;
 use crate::fault::NoAnswer;
+use crate::health::{health_text, ready_now, ready_text};
 use crate::metrics::{Figures, metrics_text};
 use crate::promised::plan_text;
 use crate::quoting::{call_of, quote_text};
@@ -101,12 +102,14 @@ pub fn answer_of(
         Route::Quote => of_kind(Kind::Text, quoted(alloc, opened, exchange, query)),
         Route::Chart => of_kind(Kind::Picture, drawn(alloc, opened, exchange, sight)),
         Route::Metrics => of_kind(Kind::Metrics, metrics_text(alloc, exchange, figures)),
-        // That the day goes on needs no text; the door answers with the page and its parts, and bookings are sold.
-        Route::Health
-        | Route::Home
-        | Route::Script
-        | Route::Style
-        | Route::Bookings
-        | Route::Office => { of_kind(Kind::Text, Ok(Vec::new(alloc))) }
+        Route::Health => of_kind(Kind::Text, health_text(alloc, exchange, figures)),
+        Route::Ready => of_kind(
+            Kind::Text,
+            ready_text(alloc, ready_now(opened, exchange, figures)),
+        ),
+        // The door answers with the page and its parts, and bookings are sold.
+        Route::Home | Route::Script | Route::Style | Route::Bookings | Route::Office => {
+            of_kind(Kind::Text, Ok(Vec::new(alloc)))
+        }
     }
 }

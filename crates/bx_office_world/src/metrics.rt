@@ -10,12 +10,15 @@ use crate::fault::NoAnswer;
 use crate::maintenance::maintained;
 use crate::tallies::{Became, tally_of};
 use bx_day::{Entry, Exchange};
+use bx_live::Begin;
 use bx_text::append_decimal;
 use std::alloc::{AllocError, Global};
 
 /// What the world of the day has counted since the program began.
 #[derive(Clone, Copy)]
 pub struct Figures {
+    /// How the last second began, where one has.
+    pub begun: Option<Begin>,
     /// Seconds that began without a link.
     pub alone: u64,
     /// Seconds that began too late for a turn.
@@ -34,11 +37,12 @@ impl Figures {
     /// Nothing was counted yet.
     pub fn new() -> Figures
         ensures clearings { result.clearings ≡ replicate 128 0 }
-        ensures seconds { (result.alone ≡ 0) × (result.late ≡ 0) }
+        ensures seconds { (result.begun ≡ None) × (result.alone ≡ 0) × (result.late ≡ 0) }
         ensures office { (result.answers ≡ 0) × (result.sold ≡ 0) }
         ensures sync { result.since_sync ≡ None }
     {
         Figures {
+            begun: None,
             alone: 0,
             late: 0,
             answers: 0,
@@ -64,14 +68,14 @@ fn word_of(became: Became) -> &'static str
 }
 
 /// Appends words.
-fn push(text: &mut Vec<u8>, words: &str) -> Result<(), AllocError>
+pub(crate) fn push(text: &mut Vec<u8>, words: &str) -> Result<(), AllocError>
     ensures { OnOk result (text.new.items ≡ text.old.items ++ words.now) }
 {
     text.extend_from_slice(words.as_bytes())
 }
 
 /// Appends the lines of a family of one sample, and the sample.
-fn push_family(text: &mut Vec<u8>, head: &str, value: u64) -> Result<(), AllocError>
+pub(crate) fn push_family(text: &mut Vec<u8>, head: &str, value: u64) -> Result<(), AllocError>
     ensures { OnOk result (text.new.items ≡ text.old.items ++ family_text head.now value) }
 {
     push(text, head)?;

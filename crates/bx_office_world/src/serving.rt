@@ -1,14 +1,15 @@
 //! Who waits at the door is answered.
 
 ghost use Rattle.std.specs.Prelude.{◌≡◌, ◌-◌, IfOk, IfErr};
-ghost use Rattle.bx_office_world.specs.Counting.{begin_counted, is_late, is_without_link, IsOutageNoted};
+ghost use Rattle.bx_office_world.specs.Counting.{begin_counted, is_without_link, IsOutageNoted};
 ghost use Rattle.bx_office_door.specs.Doors.{guests_of};
-ghost use Rattle.bx_office_world.specs.Serving.{reply_status_of, book_status, is_late_for, IsRefusing, IsServed, IsBatchIn, IsBadBatch, IsBatchRead, IsServing, IsToldSold};
+ghost use Rattle.bx_office_world.specs.Serving.{reply_status_of, book_status, IsRefusing, IsServed, IsBatchIn, IsBadBatch, IsBatchRead, IsBatchTaken, IsServing, IsToldSold, IsPrepared};
 
-use crate::counting::{count_begin, is_late, is_without_link};
+use crate::counting::{count_begin, is_without_link};
 use crate::desk::{Opened, Written, answer_of};
 use crate::fault::NoAnswer;
-use crate::metrics::Figures;
+use crate::health::status_at;
+use crate::metrics::{Figures, metrics_text};
 use crate::sold::{sold_text, within_day};
 use bx_base::Bookings;
 use bx_book::{BookFault, read_bookings};
@@ -17,7 +18,7 @@ use bx_day_chart::DaySight;
 use bx_live::Begin;
 use bx_market::Answer;
 use bx_office::{Allowed, Kind, Reply, Route, Status};
-use bx_office_door::Door;
+use bx_office_door::{Customer, Door};
 use bx_planner::NoQuote;
 use std::alloc::Global;
 use std::fmt::Display;
@@ -28,7 +29,7 @@ const MAX_ANSWERS: u32 = 16;
 /// A batch that is being sold: whose it is, how many rows the plan has, and all that is wanted, also what is not offered.
 #[derive(Drop)]
 pub(crate) struct Selling {
-    number: u64,
+    customer: Customer,
     rows: u16,
     wanted: Bookings,
 }
@@ -40,13 +41,12 @@ struct Batch {
     offered: Bookings,
 }
 
-/// What the office is at: what it was opened with, what was counted, where there was no link, and whether the last second began late.
+/// What the office is at: what it was opened with, what was counted, and where there was no link.
 #[derive(Drop)]
 pub(crate) struct Desk<'a> {
     pub(crate) opened: &'a Opened,
     pub(crate) figures: Figures,
     pub(crate) sight: DaySight,
-    pub(crate) is_late: bool,
 }
 
 /// A reply of this kind.
@@ -108,25 +108,13 @@ impl Desk<'_> {
     /// Notes how a second begins, after which the day has come to this moment.
     pub(crate) fn note(&mut self, moment: u32, begin: Begin)
         ensures figures { self.new.figures ≡ begin_counted begin self.old.figures }
-        ensures late { self.new.is_late ≡ is_late begin }
         ensures outages { IsOutageNoted (is_without_link begin) (moment - 1) self.old.sight.outages.spans.items self.new.sight.outages.spans.items }
         ensures opened { self.new.opened ≡ self.old.opened }
     {
         count_begin(&mut self.figures, begin);
-        self.is_late = is_late(begin);
         if is_without_link(begin) {
             // Where memory runs out the picture lacks this second.
             let _ = self.sight.outages.note(moment.saturating_sub(1));
-        }
-    }
-
-    /// Whether it is asked whether the day goes on, and it is late.
-    fn is_late_for(&self, route: Route) -> bool
-        ensures { result ≡ is_late_for self.now.is_late route }
-    {
-        match route {
-            Route::Health => self.is_late,
-            _ => false,
         }
     }
 
@@ -137,9 +125,7 @@ impl Desk<'_> {
         let Some(client) = door.client(number) else {
             return;
         };
-        if self.is_late_for(route) {
-            return door.answer(number, reply_of(Status::Unavailable, Kind::Text, b"late\n"));
-        }
+        let status = status_at(self.opened, exchange, &self.figures, route);
         match answer_of(
             alloc,
             self.opened,
@@ -149,7 +135,7 @@ impl Desk<'_> {
             route,
             client.query(),
         ) {
-            Ok(Written { kind, text }) => door.answer(number, reply_of(Status::Fine, kind, &text)),
+            Ok(Written { kind, text }) => door.answer(number, reply_of(status, kind, &text)),
             Err(why) => refuse(alloc, door, number, status_of(why), why),
         }
     }
@@ -168,8 +154,42 @@ impl Desk<'_> {
         }
     }
 
+    /// What is to be sold of the batch of a request, on a day that has so many rows: where its body has no fault, and its customer is still
+    /// there. That is looked at last, so that nothing is sold to who has hung up meanwhile.
+    fn next_batch(
+        &self,
+        alloc: Global,
+        door: &mut Door,
+        number: u64,
+        rows: u16,
+    ) -> Option<(Selling, Bookings)>
+        ensures { IsBatchTaken self.now rows number (guests_of door.old) (guests_of door.new) result }
+    {
+        let Batch { wanted, offered } = self.batch(alloc, door, number)?;
+        let customer = door.customer(number)?;
+        let selling = Selling {
+            customer,
+            rows,
+            wanted,
+        };
+        Some((selling, offered))
+    }
+
+    /// Keeps the figures of the day as it stands for who asks before it begins.
+    pub(crate) fn prepare(&self, alloc: Global, door: &mut Door, exchange: &Exchange)
+        ensures { IsPrepared self.now exchange.now door.old door.new }
+    {
+        if !door.is_early() {
+            return;
+        }
+        match metrics_text(alloc, exchange, &self.figures) {
+            Ok(text) => door.keep_figures(Some(text)),
+            Err(_) => door.keep_figures(None),
+        }
+    }
+
     /// Answers who waits, each in its turn, up to the first that asks for bookings to be sold, or up to so many: whose they are, and
-    /// those that are offered.
+    /// those that are offered. Who has hung up by then is sent away, and nothing is sold for it.
     pub(crate) fn serve(
         &self,
         alloc: Global,
@@ -185,14 +205,8 @@ impl Desk<'_> {
             let (number, route) = door.asked()?;
             match route {
                 Route::Bookings => {
-                    if let Some(batch) = self.batch(alloc, door, number) {
-                        let Batch { wanted, offered } = batch;
-                        let selling = Selling {
-                            number,
-                            rows,
-                            wanted,
-                        };
-                        return Some((selling, offered));
+                    if let Some(next) = self.next_batch(alloc, door, number, rows) {
+                        return Some(next);
                     }
                 }
                 _ => self.tell(alloc, door, exchange, number, route),
@@ -212,10 +226,11 @@ pub(crate) fn tell_sold(
 )
     ensures { IsToldSold last selling.now answers.now (guests_of door.old) (guests_of door.new) }
 {
+    let number = selling.customer.number();
     match sold_text(alloc, last, selling.rows, &selling.wanted, answers) {
-        Ok(text) => door.answer(selling.number, reply_of(Status::Fine, Kind::Csv, &text)),
+        Ok(text) => door.answer(number, reply_of(Status::Fine, Kind::Csv, &text)),
         Err(_) => door.answer(
-            selling.number,
+            number,
             reply_of(
                 Status::Unavailable,
                 Kind::Text,

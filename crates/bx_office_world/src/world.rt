@@ -38,7 +38,7 @@ impl<'a> Office<'a> {
         ensures opened { result.desk.opened.now ≡ opened.now }
         ensures figures { AreUncounted result.desk.figures }
         ensures sight { (result.desk.sight.outages.spans.items ≡ []) × (result.desk.sight.is_over ≡ false) }
-        ensures idle { (result.desk.is_late ≡ false) × (result.selling ≡ None) × (result.synced ≡ None) }
+        ensures idle { (result.selling ≡ None) × (result.synced ≡ None) }
     {
         let desk = Desk {
             opened,
@@ -47,7 +47,6 @@ impl<'a> Office<'a> {
                 outages: Outages::new(alloc),
                 is_over: false,
             },
-            is_late: false,
         };
         Office {
             alloc,
@@ -64,9 +63,11 @@ impl<'a> Office<'a> {
         Some((door.answers(), door.shown()))
     }
 
-    /// Answers who waits, up to the first that asks for bookings to be sold: whose they are, and those that are offered.
+    /// Keeps the figures for who asks before the day begins, and answers who waits, up to the first that asks for bookings to be sold: whose they
+    /// are, and those that are offered.
     fn serve(&self, exchange: &Exchange) -> Option<(Selling, Bookings)> {
         let mut guard = self.door.try_borrow_mut().ok()?;
+        self.desk.prepare(self.alloc, &mut guard, exchange);
         self.desk.serve(self.alloc, &mut guard, exchange)
     }
 
