@@ -15,18 +15,18 @@ use Rattle.bx_audit.specs.AuditRefusals.{StopsAudit, IsAuditRefusal}
 use Rattle.bx_audit.specs.Audits.{IsDayAudited, IsAuditTold}
 
 -- no audit stops at its output
-no_output : {F : Type 0} (files : F → Option (List ℕ)) (request : AuditRequest) → StopsAudit files request (Command CannotWrite) → ⊥
-no_output files request (inl why) = why
-no_output files request (inr (inl (first, why))) = why
-no_output files request (inr (inr (inl (first, (opened, channels, digest, opens, why))))) = why
-no_output files request (inr (inr (inr (first, journal, why)))) = why
+no_output : {F : Type 0} (gives : List ℕ → Option (List ℕ) → Type 0) (files : F → Option (List ℕ)) (request : AuditRequest) → StopsAudit gives files request (Command CannotWrite) → ⊥
+no_output gives files request (inl why) = why
+no_output gives files request (inr (inl (first, why))) = why
+no_output gives files request (inr (inr (inl (first, (opened, channels, digest, opens, why))))) = why
+no_output gives files request (inr (inr (inr (first, journal, why)))) = why
 
-module _ {F W : Type 0} (request : AuditRequest) (files : F → Option (List ℕ)) (contents : W → Option (List ℕ)) where
-  pub stopped : (output : Watched W) (fault : DayCommandFault) → StopsAudit files request fault → IsAuditRefusal request files contents output output fault
-  stopped output (Command CannotWrite) why = absurd (no_output files request why)
+module _ {F W : Type 0} (gives : List ℕ → Option (List ℕ) → Type 0) (request : AuditRequest) (files : F → Option (List ℕ)) (contents : W → Option (List ℕ)) where
+  pub stopped : (output : Watched W) (fault : DayCommandFault) → StopsAudit gives files request fault → IsAuditRefusal gives request files contents output output fault
+  stopped output (Command CannotWrite) why = absurd (no_output gives files request why)
   stopped output fault why = inl (why, refl)
 
-  pub uncaptured : (old new : Watched W) (fault : DayCommandFault) → IsAuditTold files request.capture (contents (device_of old)) (contents (device_of new)) false → IsNoFile request.capture fault → IsAuditRefusal request files contents old new fault
+  pub uncaptured : (old new : Watched W) (fault : DayCommandFault) → IsAuditTold gives files request (contents (device_of old)) (contents (device_of new)) false → IsNoFile request.capture fault → IsAuditRefusal gives request files contents old new fault
   uncaptured old new (Command CannotWrite) told none = absurd none
   uncaptured old new fault told none = inr (told, none)
 
@@ -35,6 +35,6 @@ none_kept contents None None octets opens kept = refl
 none_kept contents None (Some closed) octets opens kept = absurd kept
 none_kept contents (Some file) closed octets opens kept = absurd opens
 
-pub whole_without : {F : Type 0} (contents : F → Option (List ℕ)) (capture : Option CaptureWords) (day : Day) (is_whole : Bool) → IsDayAudited contents capture day is_whole → (is_whole ≡ true) ⊎ (capture ≡ None) → is_whole ≡ true
-whole_without contents capture day is_whole a (inl whole) = whole
-whole_without contents capture day is_whole a (inr none) = a.whole ∙ none_kept contents a.file a.closed a.audited.octets (subst (λ (c : Option CaptureWords). IsFileFor contents c a.file) none a.file_opens) a.audited.kept
+pub whole_without : {F : Type 0} (gives : List ℕ → Option (List ℕ) → Type 0) (contents : F → Option (List ℕ)) (request : AuditRequest) (day : Day) (is_whole : Bool) → IsDayAudited gives contents request day is_whole → (is_whole ≡ true) ⊎ (request.capture ≡ None) → is_whole ≡ true
+whole_without gives contents request day is_whole a (inl whole) = whole
+whole_without gives contents request day is_whole a (inr none) = a.whole ∙ none_kept contents a.file a.closed a.audited.octets (subst (λ (c : Option CaptureWords). IsFileFor contents c a.file) none a.file_opens) a.audited.kept

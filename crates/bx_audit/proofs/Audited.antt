@@ -5,8 +5,8 @@ use Rattle.std.proofs.lemmas.List.{append-nil}
 use Rattle.arrayvec.specs.ArrayVec.{ArrayVec}
 use Rattle.bx_base.specs.PlanParts.{parts_of}
 use Rattle.bx_day_openings.specs.Followed.{IsFollowedWhole}
-use Rattle.bx_day_openings.specs.Tied.{IsTied}
-use Rattle.bx_day_openings.specs.TiedDays.{IsTiedOpening, IsOpened}
+use Rattle.bx_day_openings.specs.Tied.{IsTiedOf}
+use Rattle.bx_day_openings.specs.TiedDays.{IsOpeningOf, IsOpened}
 use Rattle.bx_day_openings.specs.declared.fault.DayCommandFault.{DayCommandFault}
 use Rattle.bx_day_openings.specs.declared.plan_opening.DayOpening.{DayOpening}
 use Rattle.bx_day_openings.specs.declared.tied.TiedPlan.{TiedPlan}
@@ -123,8 +123,8 @@ module _ {W : Type 0} (contents : W → Option (List ℕ)) (channels cs cs' : Li
 
 -- ---- the opening of a plan
 
-pub opens_with : (tied : TiedPlan) (o : DayOpening) → IsTied None (parts_of tied.plan) tied.digest → IsOpened tied o → IsTiedOpening o.exchange o.channels o.digest
-opens_with tied o is opened = record { plan = parts_of tied.plan; tied = subst (λ (d : List ℕ). IsTied None (parts_of tied.plan) d) (sym opened.digest) is; opens = opened.opens; in_service = opened.in_service }
+pub opens_with : (gives : List ℕ → Option (List ℕ) → Type 0) (name : List ℕ) (tied : TiedPlan) (o : DayOpening) → IsTiedOf gives name (parts_of tied.plan) tied.digest → IsOpened tied o → IsOpeningOf gives name o.exchange o.channels o.digest
+opens_with gives name tied o is opened = record { plan = parts_of tied.plan; tied = subst (λ (d : List ℕ). IsTiedOf gives name (parts_of tied.plan) d) (sym opened.digest) is; opens = opened.opens; in_service = opened.in_service }
 
 -- ---- what was followed to its end, or to a fault
 

@@ -9,8 +9,8 @@ use Rattle.bx_day.specs.Telling.{outcomes_text}
 use Rattle.bx_day_openings.specs.CaptureOpenings.{IsFirstOf, IsFileFor}
 use Rattle.bx_events.specs.Events.{LiveEvent}
 use Rattle.bx_journal.specs.Heads.{of_any_day}
-use Rattle.bx_day_openings.specs.TiedDays.{IsTiedOpening}
-use Rattle.bx_request.specs.declared.request.CaptureWords.{CaptureWords}
+use Rattle.bx_day_openings.specs.TiedDays.{IsOpeningOf}
+use Rattle.bx_request.specs.declared.request.AuditRequest.{AuditRequest}
 use Rattle.bx_audit.specs.LiveCaptures.{CapturesThrough}
 use Rattle.bx_day_openings.specs.Journals.{IsJournal}
 use Rattle.bx_devices.specs.Devices.{Writing, Reading}
@@ -26,31 +26,31 @@ pub record IsAudited {F : Type 0} (plan : List ℕ) (channels : List Bool) (befo
   pub through : CapturesThrough channels first events opened day octets
   pub kept : Keeps contents file closed octets
 
--- a journal of the day of a plan was followed, and captured as the words say, and this is whether all of it was captured
-pub record IsDayAudited {F : Type 0} (contents : F → Option (List ℕ)) (capture : Option CaptureWords) (day : Day) (is_whole : Bool) : Type 0 where
+-- a journal of the day of the plan that an input gave was followed, and captured as the words say, and this is whether all of it was captured
+pub record IsDayAudited {F : Type 0} (gives : List ℕ → Option (List ℕ) → Type 0) (contents : F → Option (List ℕ)) (request : AuditRequest) (day : Day) (is_whole : Bool) : Type 0 where
   pub opened : Day
   pub channels : List Bool
   pub digest : List ℕ
-  pub opens : IsTiedOpening opened channels digest
+  pub opens : IsOpeningOf gives request.plan.now opened channels digest
   pub first : ℕ
-  pub begins : IsFirstOf capture first
+  pub begins : IsFirstOf request.capture first
   pub file : Option (Watched F)
-  pub file_opens : IsFileFor contents capture file
+  pub file_opens : IsFileFor contents request.capture file
   pub closed : Option (Watched F)
   pub audited : IsAudited digest channels None contents file closed first opened day
   pub whole : is_whole ≡ is_unfaulted closed
 
 -- what became of each booking by a journal was written
-pub record IsAuditTold {F : Type 0} (contents : F → Option (List ℕ)) (capture : Option CaptureWords) (before after : Option (List ℕ)) (is_whole : Bool) : Type 0 where
+pub record IsAuditTold {F : Type 0} (gives : List ℕ → Option (List ℕ) → Type 0) (contents : F → Option (List ℕ)) (request : AuditRequest) (before after : Option (List ℕ)) (is_whole : Bool) : Type 0 where
   pub day : Day
-  pub audit : IsDayAudited contents capture day is_whole
+  pub audit : IsDayAudited gives contents request day is_whole
   pub written : Appends before after (outcomes_text day)
 
 -- or a prefix of it
-pub record IsAuditCut {F : Type 0} (contents : F → Option (List ℕ)) (capture : Option CaptureWords) (before after : Option (List ℕ)) : Type 0 where
+pub record IsAuditCut {F : Type 0} (gives : List ℕ → Option (List ℕ) → Type 0) (contents : F → Option (List ℕ)) (request : AuditRequest) (before after : Option (List ℕ)) : Type 0 where
   pub day : Day
   pub is_whole : Bool
-  pub audit : IsDayAudited contents capture day is_whole
+  pub audit : IsDayAudited gives contents request day is_whole
   pub written : AppendsPrefix before after (outcomes_text day)
 
 -- the file took the packets of some events and sales, from the first on
@@ -66,8 +66,8 @@ abbrev pub IsOpeningAudited : {F : Type 0} → DayOpening → Option (List ℕ) 
 IsOpeningAudited opening before contents file closed first = IsAudited opening.digest opening.channels before contents file closed first opening.exchange
 
 -- what became of each booking was written, and all of the day was captured
-abbrev pub IsAuditToldWhole : {F : Type 0} → (F → Option (List ℕ)) → Option CaptureWords → Writing → Type 0
-IsAuditToldWhole contents capture output = IsAuditTold contents capture output.before output.after true
+abbrev pub IsAuditToldWhole : {F : Type 0} → (List ℕ → Option (List ℕ) → Type 0) → (F → Option (List ℕ)) → AuditRequest → Writing → Type 0
+IsAuditToldWhole gives contents request output = IsAuditTold gives contents request output.before output.after true
 
 -- why the day of this opening has not gone through its journal, whatever day that is of
 abbrev pub IsNotAuditedAsRead : List ℕ → DayOpening → Reading → DayCommandFault → Type 0

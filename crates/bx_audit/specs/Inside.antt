@@ -13,7 +13,7 @@ use Rattle.bx_day_chart.specs.Sights.{Sight}
 use Rattle.bx_day_openings.specs.OpeningRefusals.{IsNoOpening}
 use Rattle.bx_day_openings.specs.Recording.{answer_for}
 use Rattle.bx_day_openings.specs.Replays.{IsDayThrough, HasNoReplay}
-use Rattle.bx_day_openings.specs.TiedDays.{IsTiedOpening}
+use Rattle.bx_day_openings.specs.TiedDays.{IsOpeningOf}
 use Rattle.bx_day_openings.specs.declared.fault.DayCommandFault.{DayCommandFault}
 use Rattle.bx_day_openings.specs.declared.fault.DayCommandFault.TheVariants.{Command}
 use Rattle.bx_day_openings.specs.declared.plan_opening.DayOpening.{DayOpening}
@@ -39,8 +39,8 @@ pub record IsAuditedInto {F : Type 0} (contents : F → Option (List ℕ)) (open
   pub whole : is_whole ≡ is_unfaulted closed
 
 -- there is no plan that is proved, or one, and its journal in a file is none
-abbrev pub IsUnreadThrough : List ℕ → List ℕ → DayCommandFault → Type 0
-IsUnreadThrough plan journal fault = IsNoOpening plan fault ⊎ ((opened : Day) × (channels : List Bool) × (digest : List ℕ) × IsTiedOpening opened channels digest × HasNoReplay journal (of_any_day digest) channels opened fault)
+abbrev pub IsUnreadThrough : (List ℕ → Option (List ℕ) → Type 0) → List ℕ → List ℕ → DayCommandFault → Type 0
+IsUnreadThrough gives plan journal fault = IsNoOpening plan fault ⊎ ((opened : Day) × (channels : List Bool) × (digest : List ℕ) × IsOpeningOf gives plan opened channels digest × HasNoReplay journal (of_any_day digest) channels opened fault)
 
 -- ---- of records
 

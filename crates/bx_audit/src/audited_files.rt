@@ -4,9 +4,8 @@ ghost use Rattle.std.specs.Prelude.{◌≤◌, None, IfOk, IfErr, OnOk};
 ghost use Rattle.bx_base.specs.PlanParts.{parts_of};
 ghost use Rattle.bx_capture.specs.declared.start.TheConstants.{LAST_START};
 ghost use Rattle.bx_day.specs.Day.{Day};
-ghost use Rattle.bx_day_openings.specs.CaptureOpenings.{IsFirstOf};
 ghost use Rattle.bx_day_openings.specs.Replays.{IsDayThrough, HasNoReplay};
-ghost use Rattle.bx_day_openings.specs.Tied.{IsTied};
+ghost use Rattle.bx_day_openings.specs.Tied.{IsTiedOf};
 ghost use Rattle.bx_journal.specs.Heads.{of_any_day};
 ghost use Rattle.bx_audit.specs.AuditRefusals.{HasJournal, StopsAudit, IsAuditRefusal};
 ghost use Rattle.bx_audit.specs.Audits.{IsDayAudited, IsAuditToldWhole};
@@ -56,9 +55,9 @@ fn tied_through<'a, H: Files + AllocGlobal + Eprint, I: Inputs>(
     plan: &'a str,
     journal: &'a str,
 ) -> Result<TiedPlan, DayCommandFault<'a>>
-    ensures tied { IfOk result (λ tied. IsTied None (parts_of tied.plan) tied.digest) }
-    ensures through { OnOk result HasJournal }
-    ensures refused { IfErr result (IsUnreadThrough plan.now journal.now) }
+    ensures tied { IfOk result (λ tied. IsTiedOf (I.gives inputs.old) plan.now (parts_of tied.plan) tied.digest) }
+    ensures through { OnOk result (HasJournal (I.gives inputs.old) plan.now) }
+    ensures refused { IfErr result (IsUnreadThrough (I.gives inputs.old) plan.now journal.now) }
 {
     let tied = tied_named(rt.alloc(), inputs, plan)?;
     let opening = opening_of(rt.alloc(), &tied)?;
@@ -83,39 +82,21 @@ fn audited_into<'a, R: Read + Drop, W: Write + Drop>(
     Ok((exchange, is_whole(&file)))
 }
 
-/// The exchange of this plan after the events and sales of the journal in a file, which was read through, from this first second
-/// on, and whether all that was to be captured of its day was.
-fn audited_from<'a, H: Files + AllocGlobal + Eprint>(
-    rt: &H,
-    request: AuditRequest<'a>,
-    tied: &TiedPlan,
-    first: u32,
-) -> Result<(Exchange, bool), DayCommandFault<'a>>
-    requires begins { IsFirstOf request.capture first }
-    requires limit { first ≤ LAST_START }
-    requires tied { IsTied None (parts_of tied.now.plan) tied.now.digest }
-    requires through { HasJournal }
-    ensures audited { IfOk result (λ audited. IsDayAudited H.File.contents request.entry.capture audited.0 audited.1) }
-    ensures stopped { IfErr result (StopsAudit H.File.contents request.entry) }
-{
-    let file = file_of(rt, request.capture)?;
-    let journal = open(rt, request.journal)?;
-    let opening = opening_of(rt.alloc(), tied)?;
-    audited_into(rt.alloc(), request.journal, journal, opening, file, first)
-}
-
 /// The exchange after the events and sales of the journal in a file, and whether all that was to be captured of its day was.
 fn audited_in<'a, H: Files + AllocGlobal + Eprint, I: Inputs>(
     rt: &H,
     inputs: &mut I,
     request: AuditRequest<'a>,
 ) -> Result<(Exchange, bool), DayCommandFault<'a>>
-    ensures audited { IfOk result (λ audited. IsDayAudited H.File.contents request.entry.capture audited.0 audited.1) }
-    ensures stopped { IfErr result (StopsAudit H.File.contents request.entry) }
+    ensures audited { IfOk result (λ audited. IsDayAudited (I.gives inputs.old) H.File.contents request.entry audited.0 audited.1) }
+    ensures stopped { IfErr result (StopsAudit (I.gives inputs.old) H.File.contents request.entry) }
 {
     let first = first_of(request.capture)?;
     let tied = tied_through(rt, inputs, request.plan, request.journal)?;
-    audited_from(rt, request, &tied, first)
+    let file = file_of(rt, request.capture)?;
+    let journal = open(rt, request.journal)?;
+    let opening = opening_of(rt.alloc(), &tied)?;
+    audited_into(rt.alloc(), request.journal, journal, opening, file, first)
 }
 
 /// Writes what became of each booking of the plan of an input by the journal in a file, a line for each, as the day itself tells
@@ -133,8 +114,8 @@ pub fn audit_files<'a, H: Files + AllocGlobal + Eprint, I: Inputs, W: Write>(
     request: AuditRequest<'a>,
     output: &mut Watched<W>,
 ) -> Result<(), DayCommandFault<'a>>
-    ensures done { OnOk result (IsAuditToldWhole H.File.contents request.entry.capture (writing_of W.contents output.old output.new)) }
-    ensures refused { IfErr result (IsAuditRefusal request.entry H.File.contents W.contents output.old output.new) }
+    ensures done { OnOk result (IsAuditToldWhole (I.gives inputs.old) H.File.contents request.entry (writing_of W.contents output.old output.new)) }
+    ensures refused { IfErr result (IsAuditRefusal (I.gives inputs.old) request.entry H.File.contents W.contents output.old output.new) }
 {
     let (exchange, is_whole) = audited_in(rt, inputs, request)?;
     exchange.write_outcomes(output)?;

@@ -14,16 +14,16 @@ pub returns-in_err-opening-clause-refused : goal.returns-in_err-opening-clause-r
 returns-in_err-opening-clause-refused g c =
     let p = err_from_is_err_and c.from_residual-in_err-opening.result c.from_residual-in_err-opening.ensures.1 in
     rw (p.1, p.2)
-    (subst (λ (fault : DayCommandFault). IsUnreadThrough c.args.plan.now c.args.journal.now fault) (sym c.in_err-opening.ensures.refused) (inl tt))
+    (subst (λ (fault : DayCommandFault). IsUnreadThrough (g.I.Inputs.gives c.args.inputs.now) c.args.plan.now c.args.journal.now fault) (sym c.in_err-opening.ensures.refused) (inl tt))
 
 pub returns-in_err-read_through-clause-refused : goal.returns-in_err-read_through-clause-refused
 returns-in_err-read_through-clause-refused g c =
     let o = c.in_ok-opening.opening in
     let p = err_from_is_err_and c.from_residual-in_err-read_through.result c.from_residual-in_err-read_through.ensures.1 in
     rw (p.1, p.2)
-    (inr (o.exchange, o.channels, o.digest, opens_with c.in_ok-tied.tied o c.in_ok-tied.ensures.found c.in_ok-opening.ensures.opened, c.in_err-read_through.ensures.refused))
+    (inr (o.exchange, o.channels, o.digest, opens_with (g.I.Inputs.gives c.args.inputs.now) c.args.plan.now c.in_ok-tied.tied o c.in_ok-tied.ensures.given c.in_ok-opening.ensures.opened, c.in_err-read_through.ensures.refused))
 
 pub returns-clause-through : goal.returns-clause-through
 returns-clause-through g c =
     let o = c.in_ok-opening.opening in
-    (o.exchange, o.channels, o.digest, opens_with c.in_ok-tied.tied o c.in_ok-tied.ensures.found c.in_ok-opening.ensures.opened, c.in_ok-read_through.ensures.read)
+    (o.exchange, o.channels, o.digest, opens_with (g.I.Inputs.gives c.args.inputs.now) c.args.plan.now c.in_ok-tied.tied o c.in_ok-tied.ensures.given c.in_ok-opening.ensures.opened, c.in_ok-read_through.ensures.read)

@@ -1,4 +1,6 @@
 use Rattle.std.proofs.Common.{subst, sym}
+use Rattle.bx_audit.specs.AuditRefusals.{IsAuditRefusal}
+use Rattle.bx_audit.specs.Audits.{IsAuditToldWhole}
 use Rattle.bx_audit.specs.Charted.{IsDayCharted}
 use Rattle.bx_audit.specs.LastPlans.{IsSoldTold}
 use Rattle.bx_audit.specs.Recorded.{AreRecordsTold}
@@ -78,12 +80,12 @@ returns-in-Live-clause-refused g c one =
 pub returns-in-Audit-clause-done : goal.returns-in-Audit-clause-done
 returns-in-Audit-clause-done g c zero =
     subst (λ (r : Request). IsRequestDone g.row.H.Denot (g.R.Read.remaining (device_of c.args.input.now)) r g.H.File.Write.contents g.W.Write.contents c.args.output.now c.audit_files-done.new.output) (sym c.in-Audit.is)
-    (done_at c.audit_files-done.result c.status_of-in-Audit.result c.status_of-in-Audit.ensures.done c.audit_files-done.ensures.done zero)
+    (done_by _ _ _ c.new-inputs.ensures (λ gives. IsAuditToldWhole gives g.H.File.Write.contents c.in-Audit.request (writing_of g.W.Write.contents c.args.output.now c.audit_files-done.new.output)) c.audit_files-done.result c.status_of-in-Audit.result c.status_of-in-Audit.ensures.done c.audit_files-done.ensures.done zero)
 
 pub returns-in-Audit-clause-refused : goal.returns-in-Audit-clause-refused
 returns-in-Audit-clause-refused g c one =
     subst (λ (r : Request). IsRequestRefused g.row.H.Denot (g.R.Read.remaining (device_of c.args.input.now)) r g.H.File.Write.contents g.W.Write.contents c.args.output.now c.audit_files-done.new.output) (sym c.in-Audit.is)
-    (refused_at c.audit_files-done.result c.status_of-in-Audit.result c.status_of-in-Audit.ensures.done c.audit_files-done.ensures.refused (not_zero _ one))
+    (refused_by _ _ _ c.new-inputs.ensures (λ gives. IsAuditRefusal gives c.in-Audit.request g.H.File.Write.contents g.W.Write.contents c.args.output.now c.audit_files-done.new.output) c.audit_files-done.result c.status_of-in-Audit.result c.status_of-in-Audit.ensures.done c.audit_files-done.ensures.refused (not_zero _ one))
 
 pub returns-in-Decode-clause-done : goal.returns-in-Decode-clause-done
 returns-in-Decode-clause-done g c zero =
