@@ -4,6 +4,7 @@ ghost use Rattle.std.specs.Prelude.{◌≡◌, true, is_some, IfOk, IfSome, OnEr
 ghost use Rattle.bx_calendar.specs.Clocks.{IsClock};
 ghost use Rattle.bx_live_commands.specs.LiveRuns.{RunsByLine, StopsByLine};
 
+use crate::plan_file::{PlanFile, PlanWatched};
 use bx_calendar::Clock as DayClock;
 use bx_day::Exchange;
 use bx_journal::Disk;
@@ -11,13 +12,15 @@ use bx_journal_files::Resumed;
 use bx_line_world::{Line, LineWorld, Wire};
 use bx_live::{CannotLog, Schedule, run_held};
 use bx_world::Telling;
+use std::fs::Files;
 use std::rt::Clock;
 
-/// What is told of a live day while it runs: each fault with the time of day, where this date and this zone name one, and the moment,
-/// where it is shown.
+/// What is told of a live day while it runs: each fault with the time of day, where this date and this zone name one, that its plan was
+/// changed, and the moment, where it is shown.
 #[derive(Clone, Copy)]
 pub struct Told<'a> {
     pub day: (&'a str, &'a str),
+    pub plan: PlanFile<'a>,
     pub is_shown: bool,
 }
 
@@ -34,7 +37,7 @@ impl<'a> Told<'a> {
 /// Runs the rest of a day up to a turn of it, and after that on while a call is up, by the clock, as the network's end of a data link
 /// over the wire. Answers the exchange at the end of the day. `CannotLog` where an event cannot be logged, since the journal's disk has
 /// failed: nothing more is done then.
-pub fn run_by_clock<'a, 'h, H: Clock + Eprint, W: Wire + Drop, D: Disk + Drop>(
+pub fn run_by_clock<'a, 'h, H: Clock + Files + Eprint, W: Wire + Drop, D: Disk + Drop>(
     rt: &'h H,
     resumed: Resumed<D>,
     wire: W,
@@ -49,9 +52,15 @@ pub fn run_by_clock<'a, 'h, H: Clock + Eprint, W: Wire + Drop, D: Disk + Drop>(
     let Resumed { mut exchange, log } = resumed;
     let line = Line::new(true, wire).going_on(exchange.moment());
     let world = LineWorld::new(schedule, line, log);
-    let mut telling = Telling::new(rt, world, told.clock(), told.is_shown);
-    let done = run_held(&mut exchange, &mut telling, turns);
-    telling.clear();
+    let telling = Telling::new(rt, world, told.clock(), told.is_shown);
+    let mut watched = PlanWatched {
+        world: telling,
+        rt,
+        plan: Some(told.plan),
+        is_shown: told.is_shown,
+    };
+    let done = run_held(&mut exchange, &mut watched, turns);
+    watched.world.clear();
     done?;
     Ok(exchange)
 }

@@ -4,6 +4,7 @@ ghost use Rattle.std.specs.Prelude.{◌≡◌, true, is_some, IfOk, OnErr};
 ghost use Rattle.bx_live_commands.specs.OfficeRuns.{SellsByLine, StopsSelling};
 
 use crate::by_line::Told;
+use crate::plan_file::PlanWatched;
 use bx_base::ChannelSet;
 use bx_calendar::{Clock as DayClock, Day};
 use bx_day::Exchange;
@@ -16,6 +17,7 @@ use bx_office_door::{Door, OfficeWire};
 use bx_office_world::{Office, OfficeWorld, Opened};
 use bx_world::Telling;
 use std::cell::RefCell;
+use std::fs::Files;
 use std::rc::Rc;
 use std::rt::Clock;
 
@@ -44,7 +46,13 @@ fn opened_until(turns: u32, channels: ChannelSet, day: Day, clock: Option<DayClo
 /// the disk, before its customer is told, and what starts after the last of these turns is not sold. Answers the exchange at the end of
 /// the day, with all that was sold. `CannotLog` where something cannot be logged, since the journal's disk has failed: nothing more is
 /// done or told then.
-pub fn run_with_office<'a, 'h, H: Clock + Eprint + AllocGlobal, W: Wire + Drop, D: Disk + Drop>(
+pub fn run_with_office<
+    'a,
+    'h,
+    H: Clock + Files + Eprint + AllocGlobal,
+    W: Wire + Drop,
+    D: Disk + Drop,
+>(
     rt: &'h H,
     resumed: Resumed<D>,
     wire: W,
@@ -73,11 +81,16 @@ pub fn run_with_office<'a, 'h, H: Clock + Eprint + AllocGlobal, W: Wire + Drop, 
     let telling = Telling::new(rt, world, clock, told.is_shown);
     let opened = opened_until(turns, channels, day, clock);
     let mut market = OfficeWorld {
-        world: telling,
+        world: PlanWatched {
+            world: telling,
+            rt,
+            plan: Some(told.plan),
+            is_shown: told.is_shown,
+        },
         office: Office::new(rt.alloc(), door, &opened),
     };
     let done = run_market(rt.alloc(), &mut exchange, &mut market, channels, turns);
-    market.world.clear();
+    market.world.world.clear();
     done?;
     Ok(exchange)
 }

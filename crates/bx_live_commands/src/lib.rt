@@ -5,7 +5,9 @@ mod by_line;
 mod by_office;
 mod live_files;
 mod office;
+mod plan_file;
 
 pub use by_line::{Told, run_by_clock};
 pub use by_office::{Premises, run_with_office};
 pub use live_files::live_on_files;
+pub use plan_file::PlanFile;

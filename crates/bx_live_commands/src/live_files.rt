@@ -10,6 +10,7 @@ ghost use Rattle.bx_live_commands.specs.LiveRefusals.{StopsLive, IsLiveRefusal};
 use crate::by_line::{Told, run_by_clock};
 use crate::by_office::{Premises, run_with_office};
 use crate::office::{live_turns, premises_of};
+use crate::plan_file::PlanFile;
 use bx_check_commands::{CommandFault, Inputs};
 use bx_day::Exchange;
 use bx_day_openings::{
@@ -23,14 +24,16 @@ use bx_live::{CannotLog, Schedule, has_call};
 use bx_request::LiveRequest;
 use bx_sales::is_first_fit;
 use std::alloc::Global;
+use std::fs::Files;
 use std::io::Write;
 use std::net::UdpSocket;
 use std::rt::Clock;
 
-/// What is told of a live day while it runs, its moment on a terminal alone.
-fn told_of<'a>(request: LiveRequest<'a>, is_terminal: bool) -> Told<'a> {
+/// What is told of a live day of this plan while it runs, its moment on a terminal alone.
+fn told_of<'a>(request: LiveRequest<'a>, plan: PlanFile<'a>, is_terminal: bool) -> Told<'a> {
     Told {
         day: (request.hours.date, request.hours.zone),
+        plan,
         is_shown: is_terminal && !request.is_quiet,
     }
 }
@@ -58,7 +61,7 @@ fn live_opening<'a, I: Inputs>(
 }
 
 /// Runs the rest of a day over a wire, with an office beside it where one is opened.
-fn run_rest<'a, 'h, H: Clock + Eprint + AllocGlobal, W: Wire + Drop, D: Disk + Drop>(
+fn run_rest<'a, 'h, H: Clock + Files + Eprint + AllocGlobal, W: Wire + Drop, D: Disk + Drop>(
     rt: &'h H,
     resumed: Resumed<D>,
     wire: W,
@@ -87,7 +90,7 @@ fn run_on_socket<'a, H: Host>(
     opening: DayOpening,
     socket: UdpSocket,
     premises: Option<Premises>,
-    is_terminal: bool,
+    told: Told<'a>,
 ) -> Result<Exchange, LiveFault<'a>>
     ensures ran { IfOk result (IsLiveRun H H.File.contents request.entry hours opening premises) }
     ensures stopped { IfErr result (StopsRun H H.File request.entry hours opening premises) }
@@ -100,7 +103,6 @@ fn run_on_socket<'a, H: Host>(
             pace: hours.pace,
         },
     };
-    let told = told_of(request, is_terminal);
     let resumed = resume_named(rt, request.journal, &head, opening, told.is_shown)?;
     let is_open = premises.is_some();
     let turns = live_turns(&resumed.exchange, &hours.day, request.turns, is_open);
@@ -122,10 +124,11 @@ fn run_live_day<'a, H: Host, I: Inputs>(
     ensures stopped { IfErr result (StopsLive H H.File request.entry) }
 {
     let hours = hours_of(request.hours)?;
+    let told = told_of(request, PlanFile::seen(rt, request.plan), is_terminal);
     let opening = live_opening(rt.alloc(), inputs, request.plan)?;
     let socket = line_between(rt, request.line)?;
     let premises = premises_of(rt, request, opening.channels, hours)?;
-    run_on_socket(rt, request, hours, opening, socket, premises, is_terminal)
+    run_on_socket(rt, request, hours, opening, socket, premises, told)
 }
 
 /// Runs the exchange's end of the day of a plan by the clock, as the network's end of a data link over UDP, from where its journal has

@@ -6,7 +6,7 @@ use Rattle.bx_live_commands.proofs.by_office.run_with_office.Goals as goal
 pub returns-clause-ran : goal.returns-clause-ran
 returns-clause-ran g c =
     let w = sale_ok c.in_ok-done.was c.run_market-done.ensures in
-    sells_by g.W.Wire.did g.D.Disk.holds g.D.Disk.may_leave g.D.Disk.moment g.D.Disk.left_since g.D.Disk.has_failed c.args.wire c.args.schedule c.args.resumed.log c.args.premises.channels c.args.turns c.args.resumed.exchange c.run_market-done.new.exchange c.new-telling.result.world c.new-world.result c.run_market-done.new.world.world.world c.new-telling.ensures
+    sells_by g.W.Wire.did g.D.Disk.holds g.D.Disk.may_leave g.D.Disk.moment g.D.Disk.left_since g.D.Disk.has_failed c.args.wire c.args.schedule c.args.resumed.log c.args.premises.channels c.args.turns c.args.resumed.exchange c.run_market-done.new.exchange c.new-telling.result.world c.new-world.result c.run_market-done.new.world.world.world.world c.new-telling.ensures
     (search rules) c.new-world.ensures.schedule c.new-world.ensures.kept (search rules) (search rules)
     (record { run = record { deals = w.run.deals; done = w.run.done; goes = w.run.goes }; through = w.through; held = w.held; out = w.out })
 
@@ -16,7 +16,7 @@ returns-in_err-done-clause-failed g c =
     let b = sale_err c.run_market-done.new.exchange c.in_err-done.was c.run_market-done.ensures in
     rw p.1
     (selling_kept g.W.Wire.did g.D.Disk.holds g.D.Disk.may_leave g.D.Disk.moment g.D.Disk.left_since g.D.Disk.has_failed c.args.wire c.args.schedule c.args.resumed.log c.args.premises.channels c.args.turns c.args.resumed.exchange c.args.resumed.log.disk refl
-    (stops_by g.W.Wire.did g.D.Disk.holds g.D.Disk.may_leave g.D.Disk.moment g.D.Disk.left_since g.D.Disk.has_failed c.args.wire c.args.schedule c.args.resumed.log c.args.premises.channels c.args.turns c.args.resumed.exchange c.new-telling.result.world c.new-world.result c.run_market-done.new.world.world.world c.new-telling.ensures
+    (stops_by g.W.Wire.did g.D.Disk.holds g.D.Disk.may_leave g.D.Disk.moment g.D.Disk.left_since g.D.Disk.has_failed c.args.wire c.args.schedule c.args.resumed.log c.args.premises.channels c.args.turns c.args.resumed.exchange c.new-telling.result.world c.new-world.result c.run_market-done.new.world.world.world.world c.new-telling.ensures
     (search rules) c.new-world.ensures.schedule c.new-world.ensures.kept
     (record { over = b.over; run = record { deals = b.run.deals; done = b.run.done; goes = b.run.goes }; through = b.through; held = b.held })))
 
@@ -25,6 +25,6 @@ returns-in_err-done-clause-stopped g c =
     let p = err_from_is_err_and c.from_residual.result c.from_residual.ensures.1 in
     let b = sale_err c.run_market-done.new.exchange c.in_err-done.was c.run_market-done.ensures in
     rw p.1
-    (stops_by g.W.Wire.did g.D.Disk.holds g.D.Disk.may_leave g.D.Disk.moment g.D.Disk.left_since g.D.Disk.has_failed c.args.wire c.args.schedule c.args.resumed.log c.args.premises.channels c.args.turns c.args.resumed.exchange c.new-telling.result.world c.new-world.result c.run_market-done.new.world.world.world c.new-telling.ensures
+    (stops_by g.W.Wire.did g.D.Disk.holds g.D.Disk.may_leave g.D.Disk.moment g.D.Disk.left_since g.D.Disk.has_failed c.args.wire c.args.schedule c.args.resumed.log c.args.premises.channels c.args.turns c.args.resumed.exchange c.new-telling.result.world c.new-world.result c.run_market-done.new.world.world.world.world c.new-telling.ensures
     (search rules) c.new-world.ensures.schedule c.new-world.ensures.kept
     (record { over = b.over; run = record { deals = b.run.deals; done = b.run.done; goes = b.run.goes }; through = b.through; held = b.held }))
