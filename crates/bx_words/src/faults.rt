@@ -51,7 +51,7 @@ S1 BadHeader          the first line of the script is neither header
 S2 WrongColumns r     row r of the script has another number of fields than the header
 S3 BadEntry r         a field of row r of the script is none that may stand there
 S4 TooMany            the script has more than 16,000 rows
-J1 BadLine n          line n of the journal has another form than the line that stands in its place
+J1 BadLine n          line n of the journal has another form than the line that stands in its place; where it is the first, the journal was cut: join what was cut off with it
 J2 OtherPlan          the journal is that of another plan
 J3 NotEmpty NAME      the file that is to take the journal of a new day holds something
 J4 CannotRecord NAME  the journal cannot be written, or it was removed, renamed or cut while its day ran
