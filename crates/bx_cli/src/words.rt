@@ -17,7 +17,7 @@ use bx_audit::{audit_files, chart_day_files, record_files, sold_files};
 use bx_check_commands::{CommandFault, FilesAndInput, check_self, decode};
 use bx_devices::{Watched, write_octets};
 use bx_far_commands::{far_by_line, far_on_files};
-use bx_journal_files::{Host, LiveFault, Locks, Standing};
+use bx_journal_files::{FileStats, Host, LiveFault, Locks};
 use bx_live_commands::live_on_files;
 use bx_plan_commands::run_on_files;
 use bx_rehearsal_commands::rehearse_on_files;
@@ -37,16 +37,15 @@ struct Asked<'a> {
     is_terminal: bool,
 }
 
-/// Does what the words after the program's name ask for, and answers the status: 0 done, 1 refused, 2 wrong
-/// words, 3 a live day that is refused by what a start again cannot mend. Without words it is `check_self`, whose refusal is printed after `bx: ` as one line on standard error.
-/// A failing standard error changes no status. A command of which a file would be written that it names twice is refused by `SameFile` before
-/// anything is opened. While a day runs its moment is shown on standard error, where that is a
-/// terminal.
+/// Does what the words after the program's name ask for, and answers the status: 0 done, 1 refused, 2 wrong words, 3 a live day that is
+/// refused by what a start again cannot mend. Without words it is `check_self`, whose refusal is printed after `bx: ` as one line on standard
+/// error. A failing standard error changes no status. A command of which a file would be written that it names twice is refused by `SameFile`
+/// before anything is opened. While a day runs its moment is shown on standard error, where that is a terminal.
 pub fn main_words<
     H: Files
         + Locks
         + Locates
-        + Standing
+        + FileStats
         + AllocGlobal
         + Clock
         + Eprint

@@ -5,3 +5,4 @@ pub mod NewJournals
 pub mod NewJournalsInside
 pub mod Readying
 pub mod Resuming
+pub mod Stands

@@ -2,18 +2,18 @@
 #![tactic(auto)]
 
 mod fault;
+mod file_stats;
 mod folder;
 mod host;
 mod locks;
 mod named_file;
 mod resuming;
-mod standing;
 mod starting;
 
 pub use fault::{LiveFault, unlogged};
+pub use file_stats::{FileStat, FileStats};
 pub use host::Host;
 pub use locks::Locks;
 pub use named_file::NamedFile;
 pub use resuming::{Resumed, resume_named, resume_on};
-pub use standing::Standing;
 pub use starting::{JournalDisk, new_journal};

@@ -2,8 +2,9 @@
 
 ghost use Rattle.std.specs.Prelude.{◌≡◌, ◌+◌, ◌≤◌, ◌<◌, OnOk, IfOk, is_some, false};
 ghost use Rattle.std.specs.Io.{WritesAtMost};
+ghost use Rattle.bx_journal_files.specs.Stands.{Stands};
 
-use crate::standing::Standing;
+use crate::file_stats::FileStats;
 use bx_check_commands::tell_cause;
 use bx_journal::DiskFile;
 use std::fs::{Files, OpenFile};
@@ -64,12 +65,14 @@ fn misplaced() -> io::Error {
     io::Error::other("not the file that was opened, or not as long as what was written")
 }
 
-impl<'a, H: Standing> NamedFile<'a, H, H::File> {
+impl<'a, H: FileStats> NamedFile<'a, H, H::File> {
     /// The file stands under its name, and has as many octets as were written.
     fn see(&self) -> io::Result<()>
-        ensures { OnOk result (H.stands self.now.rt.now self.now.name.now self.now.file self.now.len) }
+        ensures { OnOk result (Stands (H.lies self.now.rt.now self.now.file) (H.names self.now.rt.now self.now.name.now) self.now.len) }
     {
-        if self.rt.is_standing(self.name, &self.file, self.len)? {
+        let open = self.rt.stat(&self.file)?;
+        let named = self.rt.stat_named(self.name)?;
+        if open.is_same_file(named) && named.len == self.len {
             return Ok(());
         }
         Err(misplaced())
@@ -77,7 +80,8 @@ impl<'a, H: Standing> NamedFile<'a, H, H::File> {
 
     /// Sees at each 60th call that it stands: a second of a day writes a line at least, so that is once in a minute.
     fn watch(&mut self) -> io::Result<()>
-        ensures seen { OnOk result (60 ≤ self.old.unseen + 1 → H.stands self.new.rt.now self.new.name.now self.new.file self.new.len) }
+        ensures seen { OnOk result
+            (60 ≤ self.old.unseen + 1 → Stands (H.lies self.new.rt.now self.new.file) (H.names self.new.rt.now self.new.name.now) self.new.len) }
         ensures counted { OnOk result (self.old.unseen + 1 < 60 → self.new.unseen ≡ self.old.unseen + 1) }
     {
         if self.unseen < 59 {
@@ -90,12 +94,11 @@ impl<'a, H: Standing> NamedFile<'a, H, H::File> {
 
     /// What was written is on the disk, under the name of the file, and is all that stands there.
     fn settle(&self) -> io::Result<()>
-        ensures { OnOk result (H.keeps self.now.rt.now self.now.name.now self.now.file self.now.len) }
+        ensures synced { OnOk result (H.synced self.now.rt.now self.now.file) }
+        ensures stands { OnOk result (Stands (H.lies self.now.rt.now self.now.file) (H.names self.now.rt.now self.now.name.now) self.now.len) }
     {
-        if self.rt.settle(self.name, &self.file, self.len)? {
-            return Ok(());
-        }
-        Err(misplaced())
+        self.rt.sync(&self.file)?;
+        self.see()
     }
 }
 
@@ -124,7 +127,7 @@ impl<'a, H: Files + Eprint> NamedFile<'a, H, H::File> {
     }
 }
 
-impl<'a, H: Standing + Eprint> Write for NamedFile<'a, H, H::File> {
+impl<'a, H: FileStats + Eprint> Write for NamedFile<'a, H, H::File> {
     fn write(&mut self, buf: &[u8]) -> io::Result<usize> {
         let count = self.put(buf)?;
         let watched = self.watch();
@@ -138,19 +141,20 @@ impl<'a, H: Standing + Eprint> Write for NamedFile<'a, H, H::File> {
     }
 }
 
-impl<'a, H: Standing + Eprint> Read for NamedFile<'a, H, H::File> {
+impl<'a, H: FileStats + Eprint> Read for NamedFile<'a, H, H::File> {
     fn read(&mut self, buf: &mut [u8]) -> io::Result<usize> {
         let read = self.file.read(buf);
         self.told(read)
     }
 }
 
-impl<'a, H: Standing + Eprint> DiskFile for NamedFile<'a, H, H::File> {
+impl<'a, H: FileStats + Eprint> DiskFile for NamedFile<'a, H, H::File> {
     ghost use Rattle.std.proofs.Common.{ap};
+    ghost use Rattle.bx_journal_files.specs.Stands.{Stands};
 
     ghost is_told = { false };
 
-    ghost has_synced = { λ s. H.keeps s.rt.now s.name.now s.file s.len };
+    ghost has_synced = { λ s. H.synced s.rt.now s.file × Stands (H.lies s.rt.now s.file) (H.names s.rt.now s.name.now) s.len };
 
     ghost told = { λ file text e. ap is_some e };
 

@@ -9,7 +9,7 @@ use crate::fault::LiveFault;
 use crate::folder::sync_entry;
 use crate::locks::Locks;
 use crate::named_file::NamedFile;
-use crate::standing::Standing;
+use crate::file_stats::FileStats;
 use bx_check_commands::tell_cause;
 use bx_day::Exchange;
 use bx_day_openings::{DayOpening, replay_journal};
@@ -114,7 +114,8 @@ pub(crate) fn journal_file<'a, H: Files + Locks + Eprint>(
     rt: &H,
     name: &'a str,
 ) -> Result<H::File, LiveFault<'a>>
-    ensures { IfErr result (IsUnopenedJournal name.entry) }
+    ensures locked { IfOk result (λ file. H.locked rt.now file) }
+    ensures refused { IfErr result (IsUnopenedJournal name.entry) }
 {
     let opened = File::options()
         .read(true)
@@ -139,7 +140,7 @@ pub(crate) fn journal_file<'a, H: Files + Locks + Eprint>(
 
 /// The exchange after the events and sales of the journal in the file of this name, if there is to be one. A file that is not there is made.
 /// The faults are those of `new_journal` for a file that takes no journal, and else of `resume_on`.
-pub fn resume_named<'a, H: Files + Locks + Standing + AllocGlobal + Eprint>(
+pub fn resume_named<'a, H: Files + Locks + FileStats + AllocGlobal + Eprint>(
     rt: &'a H,
     name: Option<&'a str>,
     head: &Head,
