@@ -5,7 +5,12 @@ use Rattle.std.specs.declared.io.Error.{Error}
 use Rattle.bx_check_commands.specs.declared.fault.CommandFault.TheVariants.{Memory}
 use Rattle.bx_day_openings.specs.declared.fault.DayCommandFault.TheVariants.{Command}
 use Rattle.bx_journal_files.specs.declared.fault.LiveFault.{LiveFault}
+use Rattle.bx_journal_files.specs.declared.file_stats.FileStat.{FileStat}
 use Rattle.bx_journal_files.specs.declared.fault.LiveFault.TheVariants.{Day as OfDay, CannotRecord, NotEmpty, InUse, NotAFile}
+
+-- the system has said that an open file has so many octets
+abbrev pub HasLength : (FileStat → Type 0) → ℕ → Type 0
+HasLength lies len = (stat : FileStat) × lies stat × (stat.len ≡ len)
 
 -- a file of this name holds something, by its length; or its length is not known
 abbrev pub IsNotNew : List ℕ → Result ℕ Error → LiveFault → Type 0

@@ -1,7 +1,7 @@
 //! The system that an exchange runs on.
 
-use crate::locks::Locks;
 use crate::file_stats::FileStats;
+use crate::locks::Locks;
 use bx_day_openings::System;
 
 /// A system whose files can also be locked, and told from others that have taken their names.

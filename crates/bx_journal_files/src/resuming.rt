@@ -2,14 +2,14 @@
 
 ghost use Rattle.std.specs.Prelude.{◌≡◌, IfOk, IfErr, OnOk};
 ghost use Rattle.bx_journal_files.specs.Readying.{IsReady};
-ghost use Rattle.bx_journal_files.specs.NewJournalsInside.{IsUnopenedJournal};
+ghost use Rattle.bx_journal_files.specs.NewJournalsInside.{HasLength, IsUnopenedJournal};
 ghost use Rattle.bx_journal_files.specs.Resuming.{GoesOn, GoesOnBy, IsKeptOn, IsKeptBy, IsNotResumed, IsNoLog};
 
 use crate::fault::LiveFault;
+use crate::file_stats::FileStats;
 use crate::folder::sync_entry;
 use crate::locks::Locks;
 use crate::named_file::NamedFile;
-use crate::file_stats::FileStats;
 use bx_check_commands::tell_cause;
 use bx_day::Exchange;
 use bx_day_openings::{DayOpening, replay_journal};
@@ -87,21 +87,23 @@ fn unwritten<'a, H: Eprint>(rt: &H, name: &'a str, cause: &io::Error) -> LiveFau
     LiveFault::CannotRecord(name)
 }
 
-/// How many octets a file has.
-pub(crate) fn length_of<F: OpenFile>(file: &F) -> io::Result<u64> {
-    let metadata = file.metadata()?;
-    Ok(metadata.len())
+/// How many octets a file has, as the system says.
+pub(crate) fn length_of<H: FileStats>(rt: &H, file: &H::File) -> io::Result<u64>
+    ensures { IfOk result (HasLength (H.lies rt.now file.now)) }
+{
+    Ok(rt.stat(file)?.len)
 }
 
 /// The same of the file of a journal; `CannotRecord` where the system does not tell that.
-fn measured<'a, H: Eprint, F: OpenFile>(
+fn measured<'a, H: FileStats + Eprint>(
     rt: &H,
     name: &'a str,
-    file: &F,
+    file: &H::File,
 ) -> Result<u64, LiveFault<'a>>
-    ensures { IfErr result (IsUnopenedJournal name.entry) }
+    ensures length { IfOk result (HasLength (H.lies rt.now file.now)) }
+    ensures refused { IfErr result (IsUnopenedJournal name.entry) }
 {
-    match length_of(file) {
+    match length_of(rt, file) {
         Ok(length) => Ok(length),
         Err(cause) => Err(unwritten(rt, name, &cause)),
     }

@@ -1,10 +1,11 @@
 //! A journal that is to be new.
 
-ghost use Rattle.std.specs.Prelude.{◌≡◌, is_some, Ok, OnOk, IfOk, IfErr};
-ghost use Rattle.bx_journal_files.specs.NewJournals.{HasNoNewJournal};
+ghost use Rattle.std.specs.Prelude.{◌≡◌, is_some, true, Ok, OnOk, IfOk, IfErr};
+ghost use Rattle.bx_journal_files.specs.NewJournals.{HasNoNewJournal, IsEmptyFile};
 ghost use Rattle.bx_journal_files.specs.NewJournalsInside.{IsNotNew, IsNoNewJournal};
 
 use crate::fault::LiveFault;
+use crate::file_stats::FileStats;
 use crate::folder::sync_entry;
 use crate::locks::Locks;
 use crate::resuming::{journal_file, length_of};
@@ -51,19 +52,20 @@ fn journal_in<'a, F: Write + OpenFile + Drop>(
 /// The journal in the file of this name, where one is named. It is made where it is not there; one that holds something is left as it
 /// is. `CannotRecord` where it cannot be opened or locked, or its length is not told, `NotAFile` where it is no plain file, `InUse` where another
 /// program writes it, `NotEmpty` where it holds something; `Day`, as `Command` (`Memory`), where memory runs out.
-pub fn new_journal<'a, H: Files + Locks + Eprint>(
+pub fn new_journal<'a, H: Files + Locks + FileStats + Eprint>(
     rt: &H,
     alloc: Global,
     name: Option<&'a str>,
 ) -> Result<Option<JournalDisk<H::File>>, LiveFault<'a>>
     ensures named { IfOk result (λ disk. is_some disk ≡ is_some name.entry) }
+    ensures new { IfOk result (λ disk. is_some disk ≡ true → IsEmptyFile (H.locked rt.now) (H.lies rt.now)) }
     ensures refused { IfErr result (HasNoNewJournal name.entry) }
 {
     let Some(name) = name else {
         return Ok(None);
     };
     let file = journal_file(rt, name)?;
-    let length = length_of(&file);
+    let length = length_of(rt, &file);
     let disk = journal_in(alloc, name, file, length)?;
     sync_entry(rt, name);
     Ok(Some(disk))
