@@ -7,6 +7,7 @@ use bx_chart::ChartFault;
 use bx_day::Exchange;
 use bx_day_chart::{DaySight, Outages, write_day_chart};
 use bx_devices::Watched;
+use bx_events::Rules;
 use bx_worked_days::{Row, exchange_of};
 use std::alloc::Global;
 
@@ -27,7 +28,7 @@ fn pass(exchange: &mut Exchange, moment: u32) {
 fn lose(exchange: &mut Exchange, outages: &mut Outages, moment: u32) -> Option<()> {
     for second in exchange.moment()..moment {
         outages.note(second).ok()?;
-        exchange.second_without_link();
+        exchange.second_without_link(Rules::Three);
     }
     Some(())
 }

@@ -4,7 +4,7 @@ use Rattle.bx_q931.specs.Messages.{PlainMessage}
 use Rattle.bx_q931.specs.declared.kind.Kind.{Kind}
 use Rattle.bx_calls.specs.declared.net_state.NetState.{NetState}
 use Rattle.bx_calls.specs.declared.net_state.NetState.TheVariants.{OutgoingCallProceeding, CallPresent, IncomingCallProceeding, CallReceived, Active, Enquiring, DisconnectIndication, ReleaseRequest}
-use Rattle.bx_calls.specs.declared.rules.Rules.{Rules}
+use Rattle.bx_events.specs.declared.rules.Rules.{Rules}
 use Rattle.bx_calls.specs.Hearing.{heard_under, heard_of}
 use Rattle.bx_calls.specs.NetTable.{net_row}
 use Rattle.bx_calls.specs.PlainCalls.{PlainNetCall}

@@ -4,6 +4,8 @@ use Rattle.std.proofs.lemmas.Bool.{leb-true, le-leb}
 use Rattle.bx_q931.specs.Outgoing.{Outgoing}
 use Rattle.bx_q931.specs.declared.kind.Kind.{Kind}
 use Rattle.bx_q931.specs.declared.kind.Kind.TheVariants.{Alerting, CallProceeding, Progress, Setup, Connect, ConnectAcknowledge, Disconnect, Release, ReleaseComplete, Notify, StatusEnquiry, Information, Status, Other}
+use Rattle.bx_events.specs.declared.rules.Rules.{Rules}
+use Rattle.bx_events.specs.declared.rules.Rules.TheVariants.{Two, Three}
 use Rattle.bx_calls.specs.declared.transition.Transition.{Transition}
 use Rattle.bx_calls.specs.declared.net_state.NetOrigin.{NetOrigin}
 use Rattle.bx_calls.specs.declared.net_state.NetOrigin.TheVariants.{Outward, Inward}
@@ -16,7 +18,7 @@ use Rattle.bx_calls.specs.declared.net_state.NetState.TheVariants.{OutgoingCallP
 use Rattle.bx_calls.specs.PlainCalls.{PlainNetCall}
 use Rattle.bx_calls.specs.Hearing.{Heard, names_channel, reports_null}
 use Rattle.bx_calls.specs.Saying.{network, with_kept_cause}
-use Rattle.bx_calls.specs.NetTable.{net_says, net_says_cause, net_status, net_same, net_to, net_releases, net_disconnects, net_setup_again, net_offers, net_asks, net_on_channel, net_acknowledged, net_row, net_is_contradicted, net_is_unacknowledged, net_is_put_off, net_put_off, net_awake_state, net_message, net_is_clearing, net_offer_due, net_release_due, net_timer, net_second, net_lost, net_later, net_unlinked, net_connects, net_is_unconnected, net_is_ringing, net_rung, is_alerted}
+use Rattle.bx_calls.specs.NetTable.{net_says, net_says_cause, net_status, net_same, net_to, net_releases, net_disconnects, net_setup_again, net_offers, net_asks, net_on_channel, net_acknowledged, net_row, net_is_contradicted, net_is_unacknowledged, net_is_put_off, net_put_off, net_awake_state, net_message, net_is_clearing, net_offer_due, net_release_due, net_timer, net_second, net_rings_on, net_lost, net_later, net_unlinked, net_connects, net_is_unconnected, net_is_ringing, net_rung, is_alerted}
 use Rattle.bx_calls.specs.Shifting.{state_earlier, earlier_by, state_later, told_later, step_later, IsDueFrom}
 
 -- ---- moments
@@ -130,21 +132,25 @@ second_later n t end c = by_end n t end c.state _ _ (net_disconnects c 16 t) (ne
 
 -- ---- without a link
 
-lost_later : (n k t : ℕ) (s : NetState) → net_lost k (t + n) (state_later n s) ≡ state_later n (net_lost k t s)
-lost_later n k t OutgoingCallProceeding = refl
-lost_later n k t (CallPresent offer due) = ap (λ x. CallPresent Unlinked x) (swap t n 1)
-lost_later n k t (IncomingCallProceeding due) = ap (λ x. IncomingCallProceeding x) (swap due n k)
-lost_later n k t (CallReceived due) = ap (λ x. CallReceived x) (swap due n k)
-lost_later n k t Active = ap (λ x. Enquiring NotYet x) (swap t n 1)
-lost_later n k t (Enquiring asked due) = ap (λ x. Enquiring NotYet x) (swap t n 1)
-lost_later n k t (DisconnectIndication cause due) = ap (λ x. DisconnectIndication cause x) (swap t n 1)
-lost_later n k t (ReleaseRequest sent cause due) = ap (λ x. ReleaseRequest NotYet cause x) (swap t n 1)
+rings_on_later : (u : Rules) (n t : ℕ) (later later' : NetState) → later' ≡ state_later n later → net_rings_on u (t + n) later' ≡ state_later n (net_rings_on u t later)
+rings_on_later Two n t later later' is = is
+rings_on_later Three n t later later' is = ap (λ x. CallPresent Unlinked x) (swap t n 1)
 
-outlasts_later : (n k t : ℕ) (s : NetState) → net_later k (t + n) (state_later n s) ≡ state_later n (net_later k t s)
-outlasts_later n k t s = bool_case (k == 0) (λ b. (if b then state_later n s else net_lost k (t + n) (state_later n s)) ≡ state_later n (if b then s else net_lost k t s)) refl (lost_later n k t s)
+lost_later : (u : Rules) (n k t : ℕ) (s : NetState) → net_lost u k (t + n) (state_later n s) ≡ state_later n (net_lost u k t s)
+lost_later u n k t OutgoingCallProceeding = refl
+lost_later u n k t (CallPresent offer due) = ap (λ x. CallPresent Unlinked x) (swap t n 1)
+lost_later u n k t (IncomingCallProceeding due) = rings_on_later u n t _ _ (ap (λ x. IncomingCallProceeding x) (swap due n k))
+lost_later u n k t (CallReceived due) = rings_on_later u n t _ _ (ap (λ x. CallReceived x) (swap due n k))
+lost_later u n k t Active = ap (λ x. Enquiring NotYet x) (swap t n 1)
+lost_later u n k t (Enquiring asked due) = ap (λ x. Enquiring NotYet x) (swap t n 1)
+lost_later u n k t (DisconnectIndication cause due) = ap (λ x. DisconnectIndication cause x) (swap t n 1)
+lost_later u n k t (ReleaseRequest sent cause due) = ap (λ x. ReleaseRequest NotYet cause x) (swap t n 1)
 
-pub unlinked_later : (n k t end : ℕ) (c : PlainNetCall) → net_unlinked k (told_later n c) (t + n) (end + n) ≡ step_later n (net_unlinked k c t end)
-unlinked_later n k t end c = by_end n t end c.state _ _ (net_to c None (DisconnectIndication 16 (t + 1))) (net_to c None (net_later k t c.state)) (ap (λ x. net_to c None (DisconnectIndication 16 x)) (swap t n 1)) (ap (λ s. net_to c None s) (outlasts_later n k t c.state))
+outlasts_later : (u : Rules) (n k t : ℕ) (s : NetState) → net_later u k (t + n) (state_later n s) ≡ state_later n (net_later u k t s)
+outlasts_later u n k t s = bool_case (k == 0) (λ b. (if b then state_later n s else net_lost u k (t + n) (state_later n s)) ≡ state_later n (if b then s else net_lost u k t s)) refl (lost_later u n k t s)
+
+pub unlinked_later : (u : Rules) (n k t end : ℕ) (c : PlainNetCall) → net_unlinked u k (told_later n c) (t + n) (end + n) ≡ step_later n (net_unlinked u k c t end)
+unlinked_later u n k t end c = by_end n t end c.state _ _ (net_to c None (DisconnectIndication 16 (t + 1))) (net_to c None (net_later u k t c.state)) (ap (λ x. net_to c None (DisconnectIndication 16 x)) (swap t n 1)) (ap (λ s. net_to c None s) (outlasts_later u n k t c.state))
 
 -- ---- messages
 
@@ -332,8 +338,8 @@ message_later n t c m =
 
 -- ---- a call that is being cleared
 
-pub end_unasked : (k t end other : ℕ) (c : PlainNetCall) → net_is_clearing c.state ≡ true → (net_second c t end ≡ net_second c t other) × (net_unlinked k c t end ≡ net_unlinked k c t other)
-end_unasked k t end other c clears = (
+pub end_unasked : (u : Rules) (k t end other : ℕ) (c : PlainNetCall) → net_is_clearing c.state ≡ true → (net_second c t end ≡ net_second c t other) × (net_unlinked u k c t end ≡ net_unlinked u k c t other)
+end_unasked u k t end other c clears = (
   ap (λ b. if not b && nat_le end t then net_disconnects c 16 t else net_timer c t c.state) clears ∙ sym (ap (λ b. if not b && nat_le other t then net_disconnects c 16 t else net_timer c t c.state) clears),
-  ap (λ b. if not b && nat_le end t then net_to c None (DisconnectIndication 16 (t + 1)) else net_to c None (net_later k t c.state)) clears ∙ sym (ap (λ b. if not b && nat_le other t then net_to c None (DisconnectIndication 16 (t + 1)) else net_to c None (net_later k t c.state)) clears),
+  ap (λ b. if not b && nat_le end t then net_to c None (DisconnectIndication 16 (t + 1)) else net_to c None (net_later u k t c.state)) clears ∙ sym (ap (λ b. if not b && nat_le other t then net_to c None (DisconnectIndication 16 (t + 1)) else net_to c None (net_later u k t c.state)) clears),
 )

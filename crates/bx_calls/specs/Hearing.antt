@@ -1,7 +1,7 @@
 -- What the call tables see of a message.
 use Rattle.std.specs.Prelude.{ℕ, ◌==◌, ◌||◌, Bool, true, false, Option, Some, None}
-use Rattle.bx_calls.specs.declared.rules.Rules.{Rules}
-use Rattle.bx_calls.specs.declared.rules.Rules.TheVariants.{Two, Three}
+use Rattle.bx_events.specs.declared.rules.Rules.{Rules}
+use Rattle.bx_events.specs.declared.rules.Rules.TheVariants.{Two, Three}
 use Rattle.bx_q931.specs.Messages.{PlainMessage}
 use Rattle.bx_q931.specs.Values.{channel_element_of, cause_of, state_of}
 use Rattle.bx_q931.specs.declared.kind.Kind.{Kind}

@@ -18,7 +18,8 @@ use Rattle.bx_calls.specs.declared.net_state.NetState.TheVariants.{OutgoingCallP
 use Rattle.bx_calls.specs.Timers.{t301, t303, t305, t308, t310, t322}
 use Rattle.bx_calls.specs.PlainCalls.{PlainNetCall}
 use Rattle.bx_calls.specs.States.{net_state}
-use Rattle.bx_calls.specs.declared.rules.Rules.{Rules}
+use Rattle.bx_events.specs.declared.rules.Rules.{Rules}
+use Rattle.bx_events.specs.declared.rules.Rules.TheVariants.{Two, Three}
 use Rattle.bx_calls.specs.Hearing.{Heard, names_channel, reports_null, lacks_call, is_passing, is_by_three}
 use Rattle.bx_calls.specs.Saying.{network, with_cause, with_kept_cause, with_channel, status_of, setup_of}
 use Rattle.bx_calls.specs.Steps.{goes_on, ends, breaks}
@@ -289,28 +290,33 @@ net_due (ReleaseRequest sent cause due) = Some due
 
 -- ---- n seconds without a link to the user, of which the last comes to moment t
 
--- the state after one such second or more: the timers of calls that are set up stand still. In the next second with a
--- link the user is asked whether it has a call in N6, and whether one in N10 is still up (5.8.9, 5.8.10), and a call that is
--- being cleared says RELEASE, as if for the first time.
-abbrev pub net_lost : ℕ → ℕ → NetState → NetState
-net_lost n t OutgoingCallProceeding = OutgoingCallProceeding
-net_lost n t (CallPresent offer due) = CallPresent Unlinked (t + 1)
-net_lost n t (IncomingCallProceeding due) = IncomingCallProceeding (due + n)
-net_lost n t (CallReceived due) = CallReceived (due + n)
-net_lost n t Active = Enquiring NotYet (t + 1)
-net_lost n t (Enquiring asked due) = Enquiring NotYet (t + 1)
-net_lost n t (DisconnectIndication cause due) = DisconnectIndication cause (t + 1)
-net_lost n t (ReleaseRequest sent cause due) = ReleaseRequest NotYet cause (t + 1)
+-- N9 and N7: by the rules 3 the call is asked for as in N6, and T310 or T301 begins anew where the user reports that it goes on; by the
+-- rules 2 its timer stands still
+abbrev pub net_rings_on : Rules → ℕ → NetState → NetState
+net_rings_on Two t later = later
+net_rings_on Three t later = CallPresent Unlinked (t + 1)
 
-abbrev pub net_later : ℕ → ℕ → NetState → NetState
-net_later n t state = if n == 0 then state else net_lost n t state
+-- the state after one such second or more, by these rules. In the next second with a link the user is asked whether it has a call in N6,
+-- N9 or N7, and whether one in N10 is still up (5.8.9, 5.8.10), and a call that is being cleared says RELEASE, as if for the first time.
+abbrev pub net_lost : Rules → ℕ → ℕ → NetState → NetState
+net_lost rules n t OutgoingCallProceeding = OutgoingCallProceeding
+net_lost rules n t (CallPresent offer due) = CallPresent Unlinked (t + 1)
+net_lost rules n t (IncomingCallProceeding due) = net_rings_on rules t (IncomingCallProceeding (due + n))
+net_lost rules n t (CallReceived due) = net_rings_on rules t (CallReceived (due + n))
+net_lost rules n t Active = Enquiring NotYet (t + 1)
+net_lost rules n t (Enquiring asked due) = Enquiring NotYet (t + 1)
+net_lost rules n t (DisconnectIndication cause due) = DisconnectIndication cause (t + 1)
+net_lost rules n t (ReleaseRequest sent cause due) = ReleaseRequest NotYet cause (t + 1)
+
+abbrev pub net_later : Rules → ℕ → ℕ → NetState → NetState
+net_later rules n t state = if n == 0 then state else net_lost rules n t state
 
 -- the end of the booking clears the call, as at a tick, but its DISCONNECT is lost: so RELEASE is due in the next second
 -- with a link
-abbrev pub net_unlinked : ℕ → PlainNetCall → ℕ → ℕ → Transition PlainNetCall
-net_unlinked n c t end =
+abbrev pub net_unlinked : Rules → ℕ → PlainNetCall → ℕ → ℕ → Transition PlainNetCall
+net_unlinked rules n c t end =
     if not (net_is_clearing c.state) && nat_le end t then net_to c None (DisconnectIndication 16 (t + 1))
-    else net_to c None (net_later n t c.state)
+    else net_to c None (net_later rules n t c.state)
 
 -- a timer, if it runs, is due at this moment at the latest
 abbrev pub IsDueBy : ℕ → NetState → Type 0

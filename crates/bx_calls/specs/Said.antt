@@ -1,8 +1,8 @@
 -- What an end hears in a message that has a call reference.
 use Rattle.std.specs.Prelude.{ℕ, Bool, Option}
 use Rattle.bx_q931.specs.Messages.{PlainMessage}
-use Rattle.bx_calls.specs.declared.rules.Rules.{Rules}
-use Rattle.bx_calls.specs.declared.rules.Rules.TheVariants.{Three}
+use Rattle.bx_events.specs.declared.rules.Rules.{Rules}
+use Rattle.bx_events.specs.declared.rules.Rules.TheVariants.{Three}
 use Rattle.bx_calls.specs.Hearing.{Heard, heard_under}
 use Rattle.bx_calls.specs.Setups.{bearer_fault}
 

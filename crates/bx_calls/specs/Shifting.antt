@@ -1,5 +1,6 @@
 -- A call from one day to the next: the same call, of which each moment is told from a midnight that comes n seconds later.
 use Rattle.std.specs.Prelude.{◌≡◌, ◌≤◌, ℕ, ◌+◌, ◌-◌, true, Some}
+use Rattle.bx_events.specs.declared.rules.Rules.{Rules}
 use Rattle.bx_calls.specs.declared.transition.Transition.{Transition}
 use Rattle.bx_calls.specs.declared.transition.Next.{Next}
 use Rattle.bx_calls.specs.declared.transition.Next.TheVariants.{Live, Over, Broken}
@@ -58,11 +59,15 @@ abbrev pub SecondsShift : Type 0
 SecondsShift = (n t end : ℕ) (c : PlainNetCall) → net_second (told_later n c) (t + n) (end + n) ≡ step_later n (net_second c t end)
 
 abbrev pub OutagesShift : Type 0
-OutagesShift = (n k t end : ℕ) (c : PlainNetCall) → net_unlinked k (told_later n c) (t + n) (end + n) ≡ step_later n (net_unlinked k c t end)
+OutagesShift =
+    (rules : Rules) (n k t end : ℕ) (c : PlainNetCall) →
+    net_unlinked rules k (told_later n c) (t + n) (end + n) ≡ step_later n (net_unlinked rules k c t end)
 
 abbrev pub MessagesShift : Type 0
 MessagesShift = (n t : ℕ) (c : PlainNetCall) (m : Heard) → net_message (told_later n c) m (t + n) ≡ step_later n (net_message c m t)
 
 -- of a call that is being cleared no end is asked: it may be told with any
 abbrev pub EndsAreUnasked : Type 0
-EndsAreUnasked = (k t end other : ℕ) (c : PlainNetCall) → net_is_clearing c.state ≡ true → (net_second c t end ≡ net_second c t other) × (net_unlinked k c t end ≡ net_unlinked k c t other)
+EndsAreUnasked =
+    (rules : Rules) (k t end other : ℕ) (c : PlainNetCall) → net_is_clearing c.state ≡ true →
+    (net_second c t end ≡ net_second c t other) × (net_unlinked rules k c t end ≡ net_unlinked rules k c t other)

@@ -14,11 +14,10 @@ use crate::net_state::NetState::{
     ReleaseRequest,
 };
 use crate::net_state::{NetOrigin, NetState, Offer};
-use crate::rules::Rules;
 use crate::timers::{T301, T310};
 use crate::times::Times;
 use crate::transition::Transition;
-use bx_events::LAST_MOMENT;
+use bx_events::{LAST_MOMENT, Rules};
 use bx_q931::cause::{
     CHANNEL_UNACCEPTABLE, INVALID_CALL_REFERENCE, MESSAGE_NOT_COMPATIBLE, MESSAGE_TYPE_UNKNOWN,
     RECOVERY_ON_TIMER_EXPIRY, REQUESTED_CHANNEL_NOT_AVAILABLE, RESOURCE_UNAVAILABLE,

@@ -1,14 +1,16 @@
 //! What a second does to a call at the network side.
 
 ghost use Rattle.std.specs.Prelude.{◌≡◌, ◌≤◌, ◌+◌, ℕ, None};
-ghost use Rattle.bx_calls.specs.NetTable.{net_to, net_is_clearing, net_offer_due, net_release_due, net_asks, net_timer, net_second, net_lost, net_later, net_unlinked, IsDueBy, IfDueFits};
+ghost use Rattle.bx_calls.specs.NetTable.{net_to, net_is_clearing, net_offer_due, net_release_due, net_asks, net_timer, net_second, net_rings_on, net_lost, net_later, net_unlinked, IsDueBy, IfDueFits};
+ghost use Rattle.bx_calls.specs.declared.net_state.NetState.TheVariants.{CallPresent};
+ghost use Rattle.bx_calls.specs.declared.net_state.Offer.TheVariants.{Unlinked};
 
 use crate::net_call::NetCall;
 use crate::net_state::{NetState, Offer};
 use crate::timers::T322;
 use crate::times::Times;
 use crate::transition::Transition;
-use bx_events::LAST_MOMENT;
+use bx_events::{LAST_MOMENT, Rules};
 use bx_q931::cause::{NORMAL_CALL_CLEARING, RECOVERY_ON_TIMER_EXPIRY, TEMPORARY_FAILURE};
 use bx_q931::{Kind, Out};
 
@@ -25,29 +27,36 @@ impl NetCall {
         }
     }
 
-    /// What the call does in so many seconds without a link to the user, of which the last comes to this moment: its
-    /// timer stands still while it is set up. In the next second with a link the user is asked whether a call in N10 is
-    /// still up, and RELEASE is due for one that is being cleared; so it is where the booking ends by then. A timer that
-    /// would be due after the last moment of a `u32` is due at that. The moment is at most `LAST_MOMENT`.
-    pub fn on_seconds_unlinked(self, seconds: u32, moment: u32, end: u32) -> Transition<NetCall>
+    /// What the call does by these rules in so many seconds without a link to the user, of which the last comes to this moment. In the
+    /// next second with a link the user is asked whether it has a call in N6, N9 or N7, and whether one in N10 is still up (ITU-T Q.931,
+    /// 5.8.9, 5.8.10), and RELEASE is due for one that is being cleared; so it is where the booking ends by then. By the rules 2 one in
+    /// N9 or N7 is not asked for: its timer stands still, and one that would be due after the last moment of a `u32` is due at that. The
+    /// moment is at most `LAST_MOMENT`.
+    pub fn on_seconds_unlinked(
+        self,
+        seconds: u32,
+        rules: Rules,
+        moment: u32,
+        end: u32,
+    ) -> Transition<NetCall>
         requires moment { moment ≤ LAST_MOMENT }
-        ensures { IfDueFits seconds self.state (result ≡ net_unlinked seconds self moment end) }
+        ensures { IfDueFits seconds self.state (result ≡ net_unlinked rules seconds self moment end) }
     {
         if moment >= end && !self.is_clearing() {
             let due = moment + 1;
             let cause = NORMAL_CALL_CLEARING;
             self.goes(None, NetState::DisconnectIndication { cause, due })
         } else {
-            self.outlasts(seconds, moment)
+            self.outlasts(seconds, rules, moment)
         }
     }
 
     /// The same where the booking does not end.
-    fn outlasts(self, seconds: u32, moment: u32) -> Transition<NetCall>
+    fn outlasts(self, seconds: u32, rules: Rules, moment: u32) -> Transition<NetCall>
         requires moment { moment ≤ LAST_MOMENT }
-        ensures { IfDueFits seconds self.state (result ≡ net_to self None (net_later seconds moment self.state)) }
+        ensures { IfDueFits seconds self.state (result ≡ net_to self None (net_later rules seconds moment self.state)) }
     {
-        let state = following(self.state, seconds, moment);
+        let state = following(self.state, seconds, rules, moment);
         self.goes(None, state)
     }
 
@@ -137,34 +146,33 @@ impl NetCall {
 }
 
 /// The state after so many seconds without a link, of which the last comes to this moment.
-fn following(state: NetState, seconds: u32, moment: u32) -> NetState
+fn following(state: NetState, seconds: u32, rules: Rules, moment: u32) -> NetState
     requires { moment ≤ LAST_MOMENT }
-    ensures { (latest : ℕ) → IsDueBy latest state → latest + seconds ≤ 4294967295 → result ≡ net_later seconds moment state }
+    ensures { (latest : ℕ) → IsDueBy latest state → latest + seconds ≤ 4294967295 → result ≡ net_later rules seconds moment state }
 {
     if seconds == 0 {
         state
     } else {
-        standing_still(state, seconds, moment)
+        standing_still(state, seconds, rules, moment)
     }
 }
 
 /// The same of one such second or more.
-fn standing_still(state: NetState, seconds: u32, moment: u32) -> NetState
+fn standing_still(state: NetState, seconds: u32, rules: Rules, moment: u32) -> NetState
     requires { moment ≤ LAST_MOMENT }
-    ensures { (latest : ℕ) → IsDueBy latest state → latest + seconds ≤ 4294967295 → result ≡ net_lost seconds moment state }
+    ensures { (latest : ℕ) → IsDueBy latest state → latest + seconds ≤ 4294967295 → result ≡ net_lost rules seconds moment state }
 {
     match state {
         NetState::OutgoingCallProceeding => NetState::OutgoingCallProceeding,
-        NetState::CallPresent { .. } => NetState::CallPresent {
-            offer: Offer::Unlinked,
-            due: moment + 1,
-        },
-        NetState::IncomingCallProceeding { due } => NetState::IncomingCallProceeding {
-            due: later(due, seconds),
-        },
-        NetState::CallReceived { due } => NetState::CallReceived {
-            due: later(due, seconds),
-        },
+        NetState::CallPresent { .. } => unlinked(moment),
+        NetState::IncomingCallProceeding { due } => {
+            let due = later(due, seconds);
+            ringing_on(rules, moment, NetState::IncomingCallProceeding { due })
+        }
+        NetState::CallReceived { due } => {
+            let due = later(due, seconds);
+            ringing_on(rules, moment, NetState::CallReceived { due })
+        }
         NetState::Active | NetState::Enquiring { .. } => NetState::Enquiring {
             asked: Times::NotYet,
             due: moment + 1,
@@ -178,6 +186,28 @@ fn standing_still(state: NetState, seconds: u32, moment: u32) -> NetState
             cause,
             due: moment + 1,
         },
+    }
+}
+
+/// N6, in which the user is asked for the call a second after this moment.
+fn unlinked(moment: u32) -> NetState
+    requires { moment ≤ LAST_MOMENT }
+    ensures { result ≡ CallPresent Unlinked (moment + 1) }
+{
+    NetState::CallPresent {
+        offer: Offer::Unlinked,
+        due: moment + 1,
+    }
+}
+
+/// The state of a call that was in N9 or N7, where this is the one with a timer that stands still.
+fn ringing_on(rules: Rules, moment: u32, later: NetState) -> NetState
+    requires { moment ≤ LAST_MOMENT }
+    ensures { result ≡ net_rings_on rules moment later }
+{
+    match rules {
+        Rules::Two => later,
+        Rules::Three => unlinked(moment),
     }
 }
 

@@ -1,8 +1,8 @@
 -- The day of another plan goes on as that of the plan before, where both agree on the past. A booking that is idle at the end was so at
 -- each moment before: it held no channel, nothing was said for it, and no call was taken for it. So it may be another one in the other plan, as
 -- long as that one is idle up to moment m too. What has begun is the same, but for an end that is yet to come.
-use Rattle.bx_calls.specs.declared.rules.Rules.TheVariants.{Two, Three}
-use Rattle.bx_calls.specs.declared.rules.Rules.{Rules}
+use Rattle.bx_events.specs.declared.rules.Rules.TheVariants.{Two, Three}
+use Rattle.bx_events.specs.declared.rules.Rules.{Rules}
 use Rattle.std.proofs.Common.{◌≡◌, ℕ, zero, suc, ◌+◌, ◌≤◌, ◌<◌, ◌==◌, ◌⊎◌, ◌&&◌, ◌||◌, not, Bool, true, false, List, [], ◌∷◌, ◌++◌, map, flat_map, length, Option, Some, None, arith, refl, sym, subst, ap, ap₂, ◌∙◌, inl, inr, nat_le, nat_lt, slice_set, if◌then◌else◌, Result, Ok, Err}
 use Rattle.std.specs.List.{AllByRecursion, list_any, position}
 use Rattle.std.specs.Option.{option_map}
@@ -42,7 +42,7 @@ use Rattle.bx_day.specs.Moves.{becomes, stays, follow, follows, over_at}
 use Rattle.bx_day.specs.Ticks.{unlinked_after, waits, second_by, second_in, after_in, said_in, breaks_in, maintained_in, passed_in, tick}
 use Rattle.bx_day.specs.Receipts.{names, names_call, is_open, opens, or_else, lowest_open, with_moved, hears, takes_call, takes_or, takes_preferred, called_on, called, stray, received_at}
 use Rattle.bx_day.specs.Run.{receive_from, receive_read, happens}
-use Rattle.bx_day.specs.Outages.{without_link, live_happens, live_day_after}
+use Rattle.bx_day.specs.Outages.{without_link_by, live_happens, live_day_after}
 use Rattle.bx_day.specs.Passing.{day_of}
 use Rattle.bx_day.specs.Changed.{was_never_live, past_or_planned, with_past, said_at_each}
 use Rattle.bx_day.proofs.Extended.{Rests, IsToCome, rests_unheld, none_held, second_still, say, silent, both, event_later, run_later}
@@ -143,8 +143,8 @@ waits_idle e t back free =
 second_idle : (link : Link) (e : Entry) (t : ℕ) (back free : Bool) (s : Standing) → was_never_live (second_by link e t back free s).standing ≡ true → second_by link e t back free s ≡ stays s
 second_idle Up e t back free (OnCall c a) h = never_idle (follows a t (net_second c t e.booking.end)).standing (follow_busy a t (net_second c t e.booking.end).reply (net_second c t e.booking.end).next) h
 second_idle Up e t back free Unoffered h = waits_idle e t back free h
-second_idle Down e t back free (OnCall c a) h = never_idle (follows a t (net_unlinked 1 c t e.booking.end)).standing (follow_busy a t (net_unlinked 1 c t e.booking.end).reply (net_unlinked 1 c t e.booking.end).next) h
-second_idle Down e t back free Unoffered h = waits_idle e t false false h
+second_idle (Down rules) e t back free (OnCall c a) h = never_idle (follows a t (net_unlinked rules 1 c t e.booking.end)).standing (follow_busy a t (net_unlinked rules 1 c t e.booking.end).reply (net_unlinked rules 1 c t e.booking.end).next) h
+second_idle (Down rules) e t back free Unoffered h = waits_idle e t false false h
 second_idle link e t back free s h = refl
 
 hears_busy : (sm : Said) (t : ℕ) (s : Standing) → is_live s ≡ true → was_never_live (hears sm t s).standing ≡ false
@@ -200,8 +200,8 @@ waits_alike m e n s t back free early h =
 second_alike : (m : ℕ) (link : Link) (e n : Entry) (x : Standing) (t : ℕ) (back free : Bool) (s : Standing) → t < m → IsAlike m e n → second_by link (with_standing n x) t back free s ≡ second_by link e t back free s
 second_alike m Up e n x t back free (OnCall c a) early h = ap (λ b. follows a t (if not (net_is_clearing c.state) && b then net_disconnects c 16 t else net_timer c t c.state)) (ended_alike m t e.booking.end n.booking.end h.end early)
 second_alike m Up e n x t back free Unoffered early h = waits_alike m e n x t back free early h
-second_alike m Down e n x t back free (OnCall c a) early h = ap (λ b. follows a t (if not (net_is_clearing c.state) && b then net_to c None (DisconnectIndication 16 (t + 1)) else net_to c None (net_later 1 t c.state))) (ended_alike m t e.booking.end n.booking.end h.end early)
-second_alike m Down e n x t back free Unoffered early h = waits_alike m e n x t false false early h
+second_alike m (Down rules) e n x t back free (OnCall c a) early h = ap (λ b. follows a t (if not (net_is_clearing c.state) && b then net_to c None (DisconnectIndication 16 (t + 1)) else net_to c None (net_later rules 1 t c.state))) (ended_alike m t e.booking.end n.booking.end h.end early)
+second_alike m (Down rules) e n x t back free Unoffered early h = waits_alike m e n x t false false early h
 second_alike m link e n x t back free s early h = refl
 
 -- ---- what stood before a second, by what stands after it
@@ -329,10 +329,10 @@ tick_onto m d ns = both (nat_le 300000 d.moment) _ _ _ _ (λ (x x' : Sent Day). 
     (λ after _. record { day = refl; sent = refl; shared = after })
     (λ after early. passed_onto m Up d ns after early)
 
-without_onto : (m : ℕ) (d : Day) (ns : List Entry) → AreShared m (without_link d).entries ns → (without_link d).moment < m → (without_link (onto ns d) ≡ onto ns (without_link d)) × AreShared m d.entries ns
-without_onto m d ns = both (nat_le 300000 d.moment) _ _ _ _ (λ (x x' : Day). AreShared m x.entries ns → x.moment < m → (x' ≡ onto ns x) × AreShared m d.entries ns)
+without_onto : (rules : Rules) (m : ℕ) (d : Day) (ns : List Entry) → AreShared m (without_link_by rules d).entries ns → (without_link_by rules d).moment < m → (without_link_by rules (onto ns d) ≡ onto ns (without_link_by rules d)) × AreShared m d.entries ns
+without_onto rules m d ns = both (nat_le 300000 d.moment) _ _ _ _ (λ (x x' : Day). AreShared m x.entries ns → x.moment < m → (x' ≡ onto ns x) × AreShared m d.entries ns)
     (λ after _. (refl, after))
-    (λ after early. let g = passed_onto m Down d ns after early in (g.day, g.shared))
+    (λ after early. let g = passed_onto m (Down rules) d ns after early in (g.day, g.shared))
 
 -- ---- one booking of a list
 
@@ -621,7 +621,7 @@ module _ (m : ℕ) (d : Day) (ns : List Entry) (now : d.moment < m) where
 
   event_onto : (e : LiveEvent) → AreShared m (live_happens d e).day.entries ns → (live_happens d e).day.moment < m → Goes m ns d (live_happens d e) (live_happens (onto ns d) e)
   event_onto (OnLink e) after early = happens_onto e after early
-  event_onto WithoutLink after early = let h = without_onto m d ns after early in record { day = h.0; sent = refl; shared = h.1 }
+  event_onto (WithoutLink rules) after early = let h = without_onto rules m d ns after early in record { day = h.0; sent = refl; shared = h.1 }
   event_onto (Sold booking) after early = record { day = refl; sent = refl; shared = after }
   event_onto (HeardByRulesTwo octets) after early = let h = read_onto Two (message_at octets) after in record { day = h.day; sent = ap reply_list h.reply; shared = h.shared }
 

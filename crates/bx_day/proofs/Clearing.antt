@@ -1,6 +1,7 @@
 -- Clearing takes 38 seconds at most after the end of a booking, and each second without a link, and T308 for each outage: every event keeps that.
-use Rattle.bx_calls.specs.declared.rules.Rules.TheVariants.{Two, Three}
-use Rattle.bx_calls.specs.declared.rules.Rules.{Rules}
+use Rattle.bx_calls.specs.declared.net_state.NetState.TheVariants.{IncomingCallProceeding, CallReceived}
+use Rattle.bx_events.specs.declared.rules.Rules.TheVariants.{Two, Three}
+use Rattle.bx_events.specs.declared.rules.Rules.{Rules}
 use Rattle.std.proofs.Common.{◌≡◌, ℕ, ◌+◌, ◌*◌, ◌≤◌, ◌<◌, Bool, true, false, List, [], ◌∷◌, map, Option, Some, None, arith, refl, sym, ap, ◌∙◌, ◌&&◌, subst, inl, inr, nat_le, nat_lt, if◌then◌else◌, Result, Ok, Err, ◌==◌}
 use Rattle.std.specs.List.{AllByRecursion, position}
 use Rattle.std.proofs.lemmas.Bool.{false≢true, leb-false, leb-true, le-leb, lt-ltb, le-ltb, and_from, and_right, cases_lt, true≢false}
@@ -33,7 +34,7 @@ use Rattle.bx_day.specs.Moves.{follow, follows, over_at}
 use Rattle.bx_day.specs.Ticks.{after_in, second_at, waits, unlinked_at}
 use Rattle.bx_day.specs.Receipts.{hears, takes_call, takes_or, takes_preferred, called_on, called, stray, received_at, opens, lowest_open, names, with_moved}
 use Rattle.bx_day.specs.Run.{receive_from, receive_read, happens}
-use Rattle.bx_day.specs.Outages.{without_link, live_happens, live_day_after, Lost, none_lost, one_more, lost_by, lost_after, lost_since}
+use Rattle.bx_day.specs.Outages.{without_link_by, live_happens, live_day_after, Lost, none_lost, one_more, lost_by, lost_after, lost_since}
 use Rattle.bx_day.specs.Invariant.{CallFits, EntryFits, DayFits, phase_of, PhaseFits}
 use Rattle.bx_day.specs.Clearing.{added, ClearsBy, StandingClears, EntryClears, DayClears}
 use Rattle.bx_day.specs.declared.entry.Activity.{Activity}
@@ -150,17 +151,21 @@ still_clears_at x y t end due room less room' more waits some c low high late = 
     first_up : (n n' : ℕ) → due ≤ end + n + room → n + 9 ≤ n' → t + 1 + 1 ≤ end + n' + room'
     first_up n n' p q = omega (arith, p, q, waits, high)
 
-still_clears : (x y : Lost) (t : ℕ) (e : Entry) (r ch : ℕ) (o : NetOrigin) (s : NetState) (a : Activity) → (e.booking.end ≤ t → IsAdded x y) → CallFits t e (call_of r ch o s) a → (e.booking.end ≤ t → ClearsBy x.lasts (e.booking.end + added x) s) → StepClears y (t + 1) e a (net_unlinked 1 (call_of r ch o s) (t + 1) e.booking.end)
-still_clears x y t e r ch o (DisconnectIndication cause due) a more h c = λ late.
+still_clears : (rules : Rules) (x y : Lost) (t : ℕ) (e : Entry) (r ch : ℕ) (o : NetOrigin) (s : NetState) (a : Activity) → (e.booking.end ≤ t → IsAdded x y) → CallFits t e (call_of r ch o s) a → (e.booking.end ≤ t → ClearsBy x.lasts (e.booking.end + added x) s) → StepClears y (t + 1) e a (net_unlinked rules 1 (call_of r ch o s) (t + 1) e.booking.end)
+still_clears rules x y t e r ch o (DisconnectIndication cause due) a more h c = λ late.
     let most : t + 1 + 1 ≤ e.booking.end + added y + 26 = still_clears_at x y t e.booking.end due 30 26 26 more h.due.0 (omega arith) (λ over. (less (c over).0, (c over).1)) (omega arith) (omega arith) late in
     (λ _. omega (arith, most), omega (arith, most))
   where
     less : (x.lasts ≡ true → due + 4 ≤ e.booking.end + added x + 30) → x.lasts ≡ true → due ≤ e.booking.end + added x + 26
     less p q = omega (arith, p q)
-still_clears x y t e r ch o (ReleaseRequest NotYet cause due) a more h c = λ late. still_clears_at x y t e.booking.end due 30 30 30 more h.due.0 (omega arith) (λ over. (λ _. c over, c over)) (omega arith) (omega arith) late
-still_clears x y t e r ch o (ReleaseRequest Once cause due) a more h c = λ late. still_clears_at x y t e.booking.end due 34 30 30 more h.due.0 (omega arith) (λ over. c over) (omega arith) (omega arith) late
-still_clears x y t e r ch o (ReleaseRequest Twice cause due) a more h c = λ late. still_clears_at x y t e.booking.end due 38 30 30 more h.due.0 (omega arith) (λ over. (λ lasts. absurd (true≢false (sym lasts ∙ (c over).0)), (c over).1)) (omega arith) (omega arith) late
-still_clears x y t e r ch o s a more h c = at_end y t e a _ _ (λ late. (λ _. omega (arith, h.phase.1), omega (arith, h.phase.1)))
+still_clears rules x y t e r ch o (ReleaseRequest NotYet cause due) a more h c = λ late. still_clears_at x y t e.booking.end due 30 30 30 more h.due.0 (omega arith) (λ over. (λ _. c over, c over)) (omega arith) (omega arith) late
+still_clears rules x y t e r ch o (ReleaseRequest Once cause due) a more h c = λ late. still_clears_at x y t e.booking.end due 34 30 30 more h.due.0 (omega arith) (λ over. c over) (omega arith) (omega arith) late
+still_clears rules x y t e r ch o (ReleaseRequest Twice cause due) a more h c = λ late. still_clears_at x y t e.booking.end due 38 30 30 more h.due.0 (omega arith) (λ over. (λ lasts. absurd (true≢false (sym lasts ∙ (c over).0)), (c over).1)) (omega arith) (omega arith) late
+still_clears Two x y t e r ch o (IncomingCallProceeding due) a more h c = at_end y t e a _ _ (λ late. (λ _. omega (arith, h.phase.1), omega (arith, h.phase.1)))
+still_clears Three x y t e r ch o (IncomingCallProceeding due) a more h c = at_end y t e a _ _ (λ late. (λ _. omega (arith, h.phase.1), omega (arith, h.phase.1)))
+still_clears Two x y t e r ch o (CallReceived due) a more h c = at_end y t e a _ _ (λ late. (λ _. omega (arith, h.phase.1), omega (arith, h.phase.1)))
+still_clears Three x y t e r ch o (CallReceived due) a more h c = at_end y t e a _ _ (λ late. (λ _. omega (arith, h.phase.1), omega (arith, h.phase.1)))
+still_clears rules x y t e r ch o s a more h c = at_end y t e a _ _ (λ late. (λ _. omega (arith, h.phase.1), omega (arith, h.phase.1)))
 
 -- a message, row by row
 row_clears : (x : Lost) (t : ℕ) (e : Entry) (r ch : ℕ) (o : NetOrigin) (a : Activity) (m : Heard) (s : NetState) (k : Kind) → CallFits t e (call_of r ch o s) a → (e.booking.end ≤ t → ClearsBy x.lasts (e.booking.end + added x) s) → StepClears x t e a (net_row (call_of r ch o s) m t s k)
@@ -207,10 +212,10 @@ tick_clears_at x t e back free (OnCall c a) h k = second_clears x t (with_standi
 tick_clears_at x t e back free Unoffered h k = waits_clears (linked x) (t + 1) e back free
 tick_clears_at x t e back free s h k = tt
 
-unlinked_clears_at : (x y : Lost) (t : ℕ) (e : Entry) (s : Standing) → (e.booking.end ≤ t → IsAdded x y) → EntryFits t (with_standing e s) → StandingClears x t e.booking s → StandingClears y (t + 1) e.booking (unlinked_at e (t + 1) s).standing
-unlinked_clears_at x y t e (OnCall c a) more h k = still_clears x y t (with_standing e (OnCall c a)) c.reference c.channel c.origin c.state a more h k
-unlinked_clears_at x y t e Unoffered more h k = waits_clears y (t + 1) e false false
-unlinked_clears_at x y t e s more h k = tt
+unlinked_clears_at : (rules : Rules) (x y : Lost) (t : ℕ) (e : Entry) (s : Standing) → (e.booking.end ≤ t → IsAdded x y) → EntryFits t (with_standing e s) → StandingClears x t e.booking s → StandingClears y (t + 1) e.booking (unlinked_at rules e (t + 1) s).standing
+unlinked_clears_at rules x y t e (OnCall c a) more h k = still_clears rules x y t (with_standing e (OnCall c a)) c.reference c.channel c.origin c.state a more h k
+unlinked_clears_at rules x y t e Unoffered more h k = waits_clears y (t + 1) e false false
+unlinked_clears_at rules x y t e s more h k = tt
 
 hears_clears : (x : Lost) (t : ℕ) (m : Said) (e : Entry) (s : Standing) → EntryFits t (with_standing e s) → StandingClears x t e.booking s → StandingClears x t e.booking (hears m t s).standing
 hears_clears x t m e (OnCall c a) h k = heard_clears x t (with_standing e (OnCall c a)) c.reference c.channel c.origin a m.heard c.state m.heard.kind h k
@@ -225,9 +230,9 @@ up_clears lost d (e ∷ es) h k = (tick_clears_at (lost e.booking.end) d.moment 
 still_linked : (lost : ℕ → Lost) (t : ℕ) (es : List Entry) → AllByRecursion (EntryClears lost t) es → AllByRecursion (EntryClears (λ m. linked (lost m)) t) es
 still_linked lost t es h = all_weaker (EntryClears lost t) (EntryClears (λ m. linked (lost m)) t) (λ e p. linked_standing (lost e.booking.end) t e.booking e.standing p) es h
 
-down_clears : (lost lost' : ℕ → Lost) (d : Day) → ((m : ℕ) → m ≤ d.moment → IsAdded (lost m) (lost' m)) → (es : List Entry) → AllByRecursion (EntryFits d.moment) es → AllByRecursion (EntryClears lost d.moment) es → AllByRecursion (EntryClears lost' (d.moment + 1)) (map (after_in Down d) es)
-down_clears lost lost' d more [] h k = tt
-down_clears lost lost' d more (e ∷ es) h k = (unlinked_clears_at (lost e.booking.end) (lost' e.booking.end) d.moment e e.standing (more e.booking.end) h.0 k.0, down_clears lost lost' d more es h.1 k.1)
+down_clears : (rules : Rules) (lost lost' : ℕ → Lost) (d : Day) → ((m : ℕ) → m ≤ d.moment → IsAdded (lost m) (lost' m)) → (es : List Entry) → AllByRecursion (EntryFits d.moment) es → AllByRecursion (EntryClears lost d.moment) es → AllByRecursion (EntryClears lost' (d.moment + 1)) (map (after_in (Down rules) d) es)
+down_clears rules lost lost' d more [] h k = tt
+down_clears rules lost lost' d more (e ∷ es) h k = (unlinked_clears_at rules (lost e.booking.end) (lost' e.booking.end) d.moment e e.standing (more e.booking.end) h.0 k.0, down_clears rules lost lost' d more es h.1 k.1)
 
 moved_clears : (lost : ℕ → Lost) (d : Day) (i : ℕ) (m : Moved) → (EntryClears lost d.moment (entry_at d.entries i) → EntryClears lost d.moment (with_standing (entry_at d.entries i) m.standing)) → DayClears lost d → DayClears lost (with_moved d i m).day
 moved_clears lost d i m f h = all_update (EntryClears lost d.moment) d.entries i (with_standing (entry_at d.entries i) m.standing) f h
@@ -278,19 +283,19 @@ counted : (x : Lost) (b : Bool) → b ≡ true → IsAdded x (if b then one_more
 counted x b is = subst (λ (c : Bool). IsAdded x (if c then one_more x else x)) (sym is) (record { second = grows x; outage = begins x })
 
 -- the last moment: no second goes by
-not_counted : (lost : ℕ → Lost) (d : Day) → nat_le 300000 d.moment ≡ true → (m : ℕ) → lost_by m d WithoutLink (lost m) ≡ lost m
-not_counted lost d over m = ap (λ (b : Bool). if b then one_more (lost m) else lost m) (and_right (nat_le m d.moment) (nat_lt d.moment 300000) (le-ltb d.moment 300000 (leb-true 300000 d.moment over)))
+not_counted : (rules : Rules) (lost : ℕ → Lost) (d : Day) → nat_le 300000 d.moment ≡ true → (m : ℕ) → lost_by m d (WithoutLink rules) (lost m) ≡ lost m
+not_counted rules lost d over m = ap (λ (b : Bool). if b then one_more (lost m) else lost m) (and_right (nat_le m d.moment) (nat_lt d.moment 300000) (le-ltb d.moment 300000 (leb-true 300000 d.moment over)))
 
-without_clears : (lost : ℕ → Lost) (d : Day) → DayFits d → DayClears lost d → DayClears (λ m. lost_by m d WithoutLink (lost m)) (without_link d)
-without_clears lost d fits h =
-    let lost' : ℕ → Lost = λ m. lost_by m d WithoutLink (lost m) in
+without_clears : (rules : Rules) (lost : ℕ → Lost) (d : Day) → DayFits d → DayClears lost d → DayClears (λ m. lost_by m d (WithoutLink rules) (lost m)) (without_link_by rules d)
+without_clears rules lost d fits h =
+    let lost' : ℕ → Lost = λ m. lost_by m d (WithoutLink rules) (lost m) in
     by_cases (nat_le 300000 d.moment) _ _ (DayClears lost')
-    (λ over. all_weaker (EntryClears lost d.moment) (EntryClears lost' d.moment) (λ e p. subst (λ (x : Lost). StandingClears x d.moment e.booking e.standing) (sym (not_counted lost d over e.booking.end)) p) d.entries h)
-    (λ early. down_clears lost lost' d (λ m le. counted (lost m) (nat_le m d.moment && nat_lt d.moment 300000) (and_from (nat_le m d.moment) (nat_lt d.moment 300000) (le-leb m d.moment le) (lt-ltb d.moment 300000 (leb-false 300000 d.moment early)))) d.entries fits.each h)
+    (λ over. all_weaker (EntryClears lost d.moment) (EntryClears lost' d.moment) (λ e p. subst (λ (x : Lost). StandingClears x d.moment e.booking e.standing) (sym (not_counted rules lost d over e.booking.end)) p) d.entries h)
+    (λ early. down_clears rules lost lost' d (λ m le. counted (lost m) (nat_le m d.moment && nat_lt d.moment 300000) (and_from (nat_le m d.moment) (nat_lt d.moment 300000) (le-leb m d.moment le) (lt-ltb d.moment 300000 (leb-false 300000 d.moment early)))) d.entries fits.each h)
 
 event_clears : (lost : ℕ → Lost) (d : Day) (e : LiveEvent) → DayFits d → DayClears lost d → DayClears (λ m. lost_by m d e (lost m)) (live_happens d e).day
 event_clears lost d (OnLink e) fits h = happens_clears lost d e fits h
-event_clears lost d WithoutLink fits h = without_clears lost d fits h
+event_clears lost d (WithoutLink rules) fits h = without_clears rules lost d fits h
 event_clears lost d (Sold booking) fits h = h
 event_clears lost d (HeardByRulesTwo octets) fits h = read_clears Two lost d (message_at octets) fits h
 

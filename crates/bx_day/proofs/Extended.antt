@@ -1,7 +1,7 @@
 -- The day of a longer plan goes on as that of the plan before. Up to moment m a booking that starts at m or later is refused or
 -- waits, on whatever channel: it holds none, it is not offered or called, and nothing is said for it. All else is the same.
-use Rattle.bx_calls.specs.declared.rules.Rules.TheVariants.{Two, Three}
-use Rattle.bx_calls.specs.declared.rules.Rules.{Rules}
+use Rattle.bx_events.specs.declared.rules.Rules.TheVariants.{Two, Three}
+use Rattle.bx_events.specs.declared.rules.Rules.{Rules}
 use Rattle.std.proofs.Common.{◌≡◌, ℕ, zero, suc, ◌+◌, ◌≤◌, ◌<◌, ◌==◌, ◌⊎◌, ◌&&◌, ◌||◌, not, Bool, true, false, List, [], ◌∷◌, ◌++◌, map, flat_map, length, Option, Some, None, arith, refl, sym, subst, ap, ap₂, ◌∙◌, inl, inr, nat_le, nat_lt, slice_set, if◌then◌else◌, Result, Ok, Err}
 use Rattle.std.specs.List.{AllByRecursion, list_any, position}
 use Rattle.std.specs.Option.{option_map}
@@ -36,7 +36,7 @@ use Rattle.bx_day.specs.Moves.{becomes, stays, follows}
 use Rattle.bx_day.specs.Ticks.{unlinked_after, waits, second_by, second_in, after_in, said_in, breaks_in, maintained_in, passed_in, tick}
 use Rattle.bx_day.specs.Receipts.{names, names_call, is_open, opens, or_else, lowest_open, with_moved, hears, takes_call, takes_or, takes_preferred, called_on, called, stray, received_at, receive}
 use Rattle.bx_day.specs.Run.{receive_from, receive_read, happens}
-use Rattle.bx_day.specs.Outages.{without_link, live_happens, live_day_after}
+use Rattle.bx_day.specs.Outages.{without_link_by, live_happens, live_day_after}
 use Rattle.bx_day.specs.Passing.{day_of}
 use Rattle.bx_day.specs.Extended.{with_standings}
 use Rattle.bx_day.proofs.Indices.{index_none, position_next}
@@ -123,8 +123,8 @@ waits_seat m e n s t back free h q =
 second_seat : (m : ℕ) (link : Link) (e n : Entry) (x : Standing) (t : ℕ) (back free : Bool) (s : Standing) → IsSeat m e n → n.channel ≡ e.channel → second_by link (with_standing n x) t back free s ≡ second_by link e t back free s
 second_seat m Up e n x t back free (OnCall c a) h q = ap (λ k. follows a t (net_second c t k)) h.end
 second_seat m Up e n x t back free Unoffered h q = waits_seat m e n x t back free h q
-second_seat m Down e n x t back free (OnCall c a) h q = ap (λ k. follows a t (net_unlinked 1 c t k)) h.end
-second_seat m Down e n x t back free Unoffered h q = waits_seat m e n x t false false h q
+second_seat m (Down rules) e n x t back free (OnCall c a) h q = ap (λ k. follows a t (net_unlinked rules 1 c t k)) h.end
+second_seat m (Down rules) e n x t back free Unoffered h q = waits_seat m e n x t false false h q
 second_seat m link e n x t back free s h q = refl
 
 -- nothing, where it starts later
@@ -136,8 +136,8 @@ waits_still e t back free before order =
 pub second_still : (m : ℕ) (link : Link) (e : Entry) (t : ℕ) (back free : Bool) (s : Standing) → t < m → Rests m e.booking.start s → e.booking.start < e.booking.end → second_by link e t back free s ≡ stays s
 second_still m Up e t back free Refused early h order = refl
 second_still m Up e t back free Unoffered early h order = waits_still e t back free (omega (arith, early, h)) order
-second_still m Down e t back free Refused early h order = refl
-second_still m Down e t back free Unoffered early h order = waits_still e t false false (omega (arith, early, h)) order
+second_still m (Down rules) e t back free Refused early h order = refl
+second_still m (Down rules) e t back free Unoffered early h order = waits_still e t false false (omega (arith, early, h)) order
 second_still m link e t back free s early h order = absurd h
 
 -- ---- a second before m, of a whole day
@@ -261,10 +261,10 @@ tick_over m d ns seats = both (nat_le 300000 d.moment) _ _ _ _ (λ (x x' : Sent 
     (λ _. record { day = refl; sent = refl; seats = seats })
     (λ early. passed_over m Up d ns seats early)
 
-without_over : (m : ℕ) (d : Day) (ns : List Entry) → AreSeats m d.entries ns → (without_link d).moment < m → (without_link (over ns d) ≡ over ns (without_link d)) × AreSeats m (without_link d).entries ns
-without_over m d ns seats = both (nat_le 300000 d.moment) _ _ _ _ (λ (x x' : Day). x.moment < m → (x' ≡ over ns x) × AreSeats m x.entries ns)
+without_over : (rules : Rules) (m : ℕ) (d : Day) (ns : List Entry) → AreSeats m d.entries ns → (without_link_by rules d).moment < m → (without_link_by rules (over ns d) ≡ over ns (without_link_by rules d)) × AreSeats m (without_link_by rules d).entries ns
+without_over rules m d ns seats = both (nat_le 300000 d.moment) _ _ _ _ (λ (x x' : Day). x.moment < m → (x' ≡ over ns x) × AreSeats m x.entries ns)
     (λ _. (refl, seats))
-    (λ early. let g = passed_over m Down d ns seats early in (g.day, g.seats))
+    (λ early. let g = passed_over m (Down rules) d ns seats early in (g.day, g.seats))
 
 -- ---- a message
 
@@ -451,7 +451,7 @@ module _ (m : ℕ) (d : Day) (ns : List Entry) (seats : AreSeats m d.entries ns)
 
   event_over : (e : LiveEvent) → (live_happens d e).day.moment < m → Goes m ns (live_happens d e) (live_happens (over ns d) e)
   event_over (OnLink e) before = happens_over e before
-  event_over WithoutLink before = let h = without_over m d ns seats before in record { day = h.0; sent = refl; seats = h.1 }
+  event_over (WithoutLink rules) before = let h = without_over rules m d ns seats before in record { day = h.0; sent = refl; seats = h.1 }
   event_over (Sold booking) before = record { day = refl; sent = refl; seats = seats }
   event_over (HeardByRulesTwo octets) before = let h = read_over Two (message_at octets) in record { day = h.day; sent = ap reply_list h.reply; seats = h.seats }
 
@@ -497,7 +497,7 @@ read_later u d (Ok pm) = from_later u d pm pm.reference
 pub event_later : (d : Day) (e : LiveEvent) → Later d (live_happens d e).day
 event_later d (OnLink Tick) = by_cases (nat_le 300000 d.moment) _ _ (λ (x : Sent Day). Later d x.day) (λ _. omega arith) (λ _. omega arith)
 event_later d (OnLink (Receive octets)) = read_later Three d (message_at octets)
-event_later d WithoutLink = by_cases (nat_le 300000 d.moment) _ _ (Later d) (λ _. omega arith) (λ _. omega arith)
+event_later d (WithoutLink rules) = by_cases (nat_le 300000 d.moment) _ _ (Later d) (λ _. omega arith) (λ _. omega arith)
 event_later d (Sold booking) = omega arith
 event_later d (HeardByRulesTwo octets) = read_later Two d (message_at octets)
 

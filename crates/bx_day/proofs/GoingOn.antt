@@ -1,4 +1,6 @@
 -- A booking that goes on in the next day: what becomes of it there.
+use Rattle.bx_events.specs.declared.rules.Rules.TheVariants.{Three}
+use Rattle.bx_events.specs.declared.rules.Rules.{Rules}
 use Rattle.std.proofs.Common.{◌≡◌, ℕ, ◌+◌, ◌-◌, ◌≤◌, ◌<◌, ◌&&◌, ◌⊎◌, not, Bool, true, false, List, Option, Some, None, arith, refl, sym, subst, ap, ap₂, ◌∙◌, inl, inr, nat_le, nat_lt, is_some, unwrap_or, min, if◌then◌else◌}
 use Rattle.std.proofs.lemmas.Bool.{leb-true, le-leb, ltb-true, lt-ltb, false≢true}
 use Rattle.bx_q931.specs.Outgoing.{Outgoing}
@@ -99,18 +101,18 @@ step_goes t m a old new is = next_goes t m a new.reply new.next ∙ sym (ap (λ 
 second_is : (t m end end' : ℕ) (c : PlainNetCall) → IsDueFrom t c.state → (net_is_clearing c.state ≡ true) ⊎ (end ≡ end' + t) → net_second c (m + t) end ≡ step_later t (net_second (earlier_by t c) m end')
 second_is t m end end' c due h =
     elim h [
-      | inl clears ↦ (end_unasked 1 (m + t) end (end' + t) c clears).0
+      | inl clears ↦ (end_unasked Three 1 (m + t) end (end' + t) c clears).0
       | inr same ↦ ap (net_second c (m + t)) same
     ]
     ∙ ap (λ k. net_second k (m + t) (end' + t)) (sym (told_back t c due)) ∙ second_later t m end' (earlier_by t c)
 
-unlinked_is : (t m end end' : ℕ) (c : PlainNetCall) → IsDueFrom t c.state → (net_is_clearing c.state ≡ true) ⊎ (end ≡ end' + t) → net_unlinked 1 c (m + t) end ≡ step_later t (net_unlinked 1 (earlier_by t c) m end')
-unlinked_is t m end end' c due h =
+unlinked_is : (rules : Rules) (t m end end' : ℕ) (c : PlainNetCall) → IsDueFrom t c.state → (net_is_clearing c.state ≡ true) ⊎ (end ≡ end' + t) → net_unlinked rules 1 c (m + t) end ≡ step_later t (net_unlinked rules 1 (earlier_by t c) m end')
+unlinked_is rules t m end end' c due h =
     elim h [
-      | inl clears ↦ (end_unasked 1 (m + t) end (end' + t) c clears).1
-      | inr same ↦ ap (net_unlinked 1 c (m + t)) same
+      | inl clears ↦ (end_unasked rules 1 (m + t) end (end' + t) c clears).1
+      | inr same ↦ ap (net_unlinked rules 1 c (m + t)) same
     ]
-    ∙ ap (λ k. net_unlinked 1 k (m + t) (end' + t)) (sym (told_back t c due)) ∙ unlinked_later t 1 m end' (earlier_by t c)
+    ∙ ap (λ k. net_unlinked rules 1 k (m + t) (end' + t)) (sym (told_back t c due)) ∙ unlinked_later rules t 1 m end' (earlier_by t c)
 
 -- ---- a booking that waits
 
@@ -165,11 +167,11 @@ waits_go t m e n back free one h =
 
 pub seconds_go : (t m : ℕ) (e n : Entry) (s : Standing) (link : Link) (back free : Bool) → 1 ≤ m → LivesOn t e n s → second_by link n m back free (standing_over t s) ≡ moved_over t (second_by link e (m + t) back free s)
 seconds_go t m e n (OnCall c a) Up back free one h = step_goes t m a (net_second c (m + t) e.booking.end) (net_second (earlier_by t c) m n.booking.end) (second_is t m e.booking.end n.booking.end c h.timed h.end)
-seconds_go t m e n (OnCall c a) Down back free one h = step_goes t m a (net_unlinked 1 c (m + t) e.booking.end) (net_unlinked 1 (earlier_by t c) m n.booking.end) (unlinked_is t m e.booking.end n.booking.end c h.timed h.end)
+seconds_go t m e n (OnCall c a) (Down rules) back free one h = step_goes t m a (net_unlinked rules 1 c (m + t) e.booking.end) (net_unlinked rules 1 (earlier_by t c) m n.booking.end) (unlinked_is rules t m e.booking.end n.booking.end c h.timed h.end)
 seconds_go t m e n Unoffered Up back free one h = waits_go t m e n back free one h
-seconds_go t m e n Unoffered Down back free one h = waits_go t m e n false false one h
+seconds_go t m e n Unoffered (Down rules) back free one h = waits_go t m e n false false one h
 seconds_go t m e n s Up back free one h = refl
-seconds_go t m e n s Down back free one h = refl
+seconds_go t m e n s (Down rules) back free one h = refl
 
 pub messages_go : (t m : ℕ) (e n : Entry) (s : Standing) (said : Said) → LivesOn t e n s → (hears said m (standing_over t s) ≡ moved_over t (hears said (m + t) s)) × (names_call said (standing_over t s) ≡ names_call said s)
 messages_go t m e n (OnCall c a) said h = (step_goes t m a (net_message c said.heard (m + t)) (net_message (earlier_by t c) said.heard m) (ap (λ k. net_message k said.heard (m + t)) (sym (told_back t c h.timed)) ∙ message_later t m (earlier_by t c) said.heard), refl)
@@ -224,13 +226,13 @@ timer_clears c t s h k = absurd (false≢true k)
 second_clears : (c : PlainNetCall) (t end : ℕ) → net_is_clearing c.state ≡ true → ClearsOn (net_second c t end).next
 second_clears c t end h = subst (λ b. ClearsOn (if not b && nat_le end t then net_disconnects c 16 t else net_timer c t c.state).next) (sym h) (timer_clears c t c.state h h)
 
-lost_clears : (k t : ℕ) (s : NetState) → net_is_clearing s ≡ true → net_is_clearing (net_lost k t s) ≡ true
-lost_clears k t (DisconnectIndication cause due) h = refl
-lost_clears k t (ReleaseRequest sent cause due) h = refl
-lost_clears k t s h = absurd (false≢true h)
+lost_clears : (rules : Rules) (k t : ℕ) (s : NetState) → net_is_clearing s ≡ true → net_is_clearing (net_lost rules k t s) ≡ true
+lost_clears rules k t (DisconnectIndication cause due) h = refl
+lost_clears rules k t (ReleaseRequest sent cause due) h = refl
+lost_clears rules k t s h = absurd (false≢true h)
 
-unlinked_clears : (c : PlainNetCall) (t end : ℕ) → net_is_clearing c.state ≡ true → ClearsOn (net_unlinked 1 c t end).next
-unlinked_clears c t end h = subst (λ b. ClearsOn (if not b && nat_le end t then net_to c None (DisconnectIndication 16 (t + 1)) else net_to c None (net_later 1 t c.state)).next) (sym h) (lost_clears 1 t c.state h)
+unlinked_clears : (rules : Rules) (c : PlainNetCall) (t end : ℕ) → net_is_clearing c.state ≡ true → ClearsOn (net_unlinked rules 1 c t end).next
+unlinked_clears rules c t end h = subst (λ b. ClearsOn (if not b && nat_le end t then net_to c None (DisconnectIndication 16 (t + 1)) else net_to c None (net_later rules 1 t c.state)).next) (sym h) (lost_clears rules 1 t c.state h)
 
 row_clears : (c : PlainNetCall) (m : Heard) (t : ℕ) (s : NetState) (k : Kind) → net_is_clearing s ≡ true → ClearsOn (net_row (record c { state = s }) m t s k).next
 row_clears c m t (DisconnectIndication cause due) ReleaseComplete h = tt
@@ -285,21 +287,21 @@ second_still t m e n (OnCall c a) Up back free h =
     let new = net_second (earlier_by t c) m n.booking.end in
     same_booking t e n (OnCall c a) _ h (λ clears. step_cleared (m + t) a x.reply x.next (second_clears c (m + t) e.booking.end clears))
     (subst (λ (y : Transition PlainNetCall). IsTimedFrom t (follows a (m + t) y).standing) (sym (second_is t m e.booking.end n.booking.end c h.timed h.end)) (step_timed t (m + t) a new.reply new.next))
-second_still t m e n (OnCall c a) Down back free h =
-    let x = net_unlinked 1 c (m + t) e.booking.end in
-    let new = net_unlinked 1 (earlier_by t c) m n.booking.end in
-    same_booking t e n (OnCall c a) _ h (λ clears. step_cleared (m + t) a x.reply x.next (unlinked_clears c (m + t) e.booking.end clears))
-    (subst (λ (y : Transition PlainNetCall). IsTimedFrom t (follows a (m + t) y).standing) (sym (unlinked_is t m e.booking.end n.booking.end c h.timed h.end)) (step_timed t (m + t) a new.reply new.next))
+second_still t m e n (OnCall c a) (Down rules) back free h =
+    let x = net_unlinked rules 1 c (m + t) e.booking.end in
+    let new = net_unlinked rules 1 (earlier_by t c) m n.booking.end in
+    same_booking t e n (OnCall c a) _ h (λ clears. step_cleared (m + t) a x.reply x.next (unlinked_clears rules c (m + t) e.booking.end clears))
+    (subst (λ (y : Transition PlainNetCall). IsTimedFrom t (follows a (m + t) y).standing) (sym (unlinked_is rules t m e.booking.end n.booking.end c h.timed h.end)) (step_timed t (m + t) a new.reply new.next))
 second_still t m e n Unoffered Up back free h = same_booking t e n Unoffered _ h (λ clears. absurd (false≢true clears)) (waits_timed t m e back free)
-second_still t m e n Unoffered Down back free h = same_booking t e n Unoffered _ h (λ clears. absurd (false≢true clears)) (waits_timed t m e false false)
+second_still t m e n Unoffered (Down rules) back free h = same_booking t e n Unoffered _ h (λ clears. absurd (false≢true clears)) (waits_timed t m e false false)
 second_still t m e n Refused Up back free h = h
-second_still t m e n Refused Down back free h = h
+second_still t m e n Refused (Down rules) back free h = h
 second_still t m e n (Carried from until) Up back free h = h
-second_still t m e n (Carried from until) Down back free h = h
+second_still t m e n (Carried from until) (Down rules) back free h = h
 second_still t m e n Unanswered Up back free h = h
-second_still t m e n Unanswered Down back free h = h
+second_still t m e n Unanswered (Down rules) back free h = h
 second_still t m e n Missed Up back free h = h
-second_still t m e n Missed Down back free h = h
+second_still t m e n Missed (Down rules) back free h = h
 
 hears_still : (t m : ℕ) (e n : Entry) (s : Standing) (said : Said) → LivesOn t e n s → LivesOn t e n (hears said (m + t) s).standing
 hears_still t m e n (OnCall c a) said h =

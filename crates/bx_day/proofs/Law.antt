@@ -1,6 +1,6 @@
 -- One call per channel: the opening day, every event, and what that says.
-use Rattle.bx_calls.specs.declared.rules.Rules.TheVariants.{Two, Three}
-use Rattle.bx_calls.specs.declared.rules.Rules.{Rules}
+use Rattle.bx_events.specs.declared.rules.Rules.TheVariants.{Two, Three}
+use Rattle.bx_events.specs.declared.rules.Rules.{Rules}
 use Rattle.std.proofs.Common.{◌≡◌, ◌≢◌, ℕ, zero, suc, ◌+◌, ◌≤◌, ◌<◌, not, Bool, true, false, List, [], ◌∷◌, map, length, Option, Some, None, arith, refl, sym, subst, ap, ◌∙◌, slice_set, slice_index_or, nat_le, nat_lt, ◌==◌, Result, Ok, Err}
 use Rattle.std.specs.Prelude.{is_some}
 use Rattle.std.specs.Option.{unwrap_or}
@@ -31,7 +31,7 @@ use Rattle.bx_day.specs.Ticks.{after_in, second_at, second_by, waits, tick, pass
 use Rattle.bx_day.specs.Receipts.{hears, takes_call, takes_or, takes_preferred, called_on, called, stray, received_at, receive, opens, lowest_open, names, with_moved}
 use Rattle.bx_calls.specs.Sending.{Sent, Answered}
 use Rattle.bx_events.specs.Events.{Event, Tick, Receive, LiveEvent, OnLink, WithoutLink, Sold, HeardByRulesTwo}
-use Rattle.bx_day.specs.Outages.{Lost, without_link, live_happens, live_day_after}
+use Rattle.bx_day.specs.Outages.{Lost, without_link_by, live_happens, live_day_after}
 use Rattle.bx_day.specs.Run.{receive_from, receive_read, happens, day_after}
 use Rattle.bx_q931.specs.Messages.{PlainMessage, message_at}
 use Rattle.bx_q931.specs.declared.reference.Reference.{Reference}
@@ -110,7 +110,7 @@ second_same e t back free s = refl
 
 pub in_same : (link : Link) (e : Entry) (t : ℕ) (back free : Bool) (s : Standing) → is_refused (second_by link e t back free s).standing ≡ is_refused s
 in_same Up e t back free s = second_same e t back free s
-in_same Down e t back free s = unlinked e t s (λ m. is_refused m.standing ≡ is_refused s) (λ c a p. follow_refused a t (net_unlinked 1 c t e.booking.end).reply (net_unlinked 1 c t e.booking.end).next ∙ sym (ap is_refused p)) (second_same e t false false s)
+in_same (Down rules) e t back free s = unlinked rules e t s (λ m. is_refused m.standing ≡ is_refused s) (λ c a p. follow_refused a t (net_unlinked rules 1 c t e.booking.end).reply (net_unlinked rules 1 c t e.booking.end).next ∙ sym (ap is_refused p)) (second_same e t false false s)
 
 pub hears_same : (m : Said) (t : ℕ) (s : Standing) → is_refused (hears m t s).standing ≡ is_refused s
 hears_same m t (OnCall c a) = follow_refused a t (net_message c m.heard t).reply (net_message c m.heard t).next
@@ -120,7 +120,7 @@ refit : (b : Row) (a : Option ℕ) (e : Entry) (s : Standing) → is_refused s �
 refit b a e s same h = record { booking = h.booking; channel = h.channel; accepted = same ∙ h.accepted }
 
 pub at_map_in : (link : Link) (d : Day) (es : List Entry) (i : ℕ) → entry_at (map (after_in link d) es) i ≡ after_in link d (entry_at es i)
-at_map_in Down d [] i = refl
+at_map_in (Down rules) d [] i = refl
 at_map_in link d (e ∷ es) (suc i) = at_map_in link d es i
 at_map_in link d es i = refl
 
@@ -202,8 +202,8 @@ second_framed rows assigned link d h = (
 tick_framed : (rows : List Row) (assigned : List (Option ℕ)) (d : Day) → Framed rows assigned d → Framed rows assigned (tick d).day
 tick_framed rows assigned d h = by_cases (nat_le 300000 d.moment) _ _ (λ (s : Sent Day). Framed rows assigned s.day) (λ _. h) (λ _. second_framed rows assigned Up d h)
 
-without_framed : (rows : List Row) (assigned : List (Option ℕ)) (d : Day) → Framed rows assigned d → Framed rows assigned (without_link d)
-without_framed rows assigned d h = by_cases (nat_le 300000 d.moment) _ _ (Framed rows assigned) (λ _. h) (λ _. second_framed rows assigned Down d h)
+without_framed : (rules : Rules) (rows : List Row) (assigned : List (Option ℕ)) (d : Day) → Framed rows assigned d → Framed rows assigned (without_link_by rules d)
+without_framed rules rows assigned d h = by_cases (nat_le 300000 d.moment) _ _ (Framed rows assigned) (λ _. h) (λ _. second_framed rows assigned (Down rules) d h)
 
 moved_framed : (rows : List Row) (assigned : List (Option ℕ)) (d : Day) (i : ℕ) (m : Moved) → is_refused m.standing ≡ is_refused (entry_at d.entries i).standing → Framed rows assigned d → Framed rows assigned (with_moved d i m).day
 moved_framed rows assigned d i m same h = (
@@ -265,12 +265,12 @@ pub run_fits : (rows : List Row) (assigned : List (Option ℕ)) (events : List E
 run_fits rows assigned [] d h = h
 run_fits rows assigned (e ∷ es) d h = run_fits rows assigned es (happens d e).day (happens_fits rows assigned d e h)
 
-pub without_run : (rows : List Row) (assigned : List (Option ℕ)) (d : Day) → RunFits rows assigned d → RunFits rows assigned (without_link d)
-without_run rows assigned d h = record { day = without_fits d h.day; framed = without_framed rows assigned d h.framed }
+pub without_run : (rules : Rules) (rows : List Row) (assigned : List (Option ℕ)) (d : Day) → RunFits rows assigned d → RunFits rows assigned (without_link_by rules d)
+without_run rules rows assigned d h = record { day = without_fits rules d h.day; framed = without_framed rules rows assigned d h.framed }
 
 pub live_fits : (rows : List Row) (assigned : List (Option ℕ)) (d : Day) (e : LiveEvent) → RunFits rows assigned d → RunFits rows assigned (live_happens d e).day
 live_fits rows assigned d (OnLink e) h = happens_fits rows assigned d e h
-live_fits rows assigned d WithoutLink h = without_run rows assigned d h
+live_fits rows assigned d (WithoutLink rules) h = without_run rules rows assigned d h
 live_fits rows assigned d (Sold booking) h = h
 live_fits rows assigned d (HeardByRulesTwo octets) h = read_run Two rows assigned d (message_at octets) h
 

@@ -1,6 +1,6 @@
 -- What starts later is idle, and what is over was so by now: on every day of a plan.
-use Rattle.bx_calls.specs.declared.rules.Rules.TheVariants.{Two, Three}
-use Rattle.bx_calls.specs.declared.rules.Rules.{Rules}
+use Rattle.bx_events.specs.declared.rules.Rules.TheVariants.{Two, Three}
+use Rattle.bx_events.specs.declared.rules.Rules.{Rules}
 use Rattle.std.proofs.Common.{◌≡◌, ℕ, suc, ◌+◌, ◌≤◌, ◌<◌, ◌==◌, Bool, true, false, List, [], ◌∷◌, map, length, Option, Some, None, arith, refl, ap, ◌∙◌, nat_le, Result, Ok, Err}
 use Rattle.std.specs.List.{AllByRecursion, position}
 use Rattle.std.proofs.lemmas.Bool.{false≢true}
@@ -88,10 +88,10 @@ second_over t Up e back free (OnCall c a) f h = follow_by (t + 1) a (net_second 
 second_over t Up e back free Unoffered f h = waits_by e (t + 1) (t + 1) back free
 second_over t Up e back free (Carried from until) f h = omega (arith, h)
 second_over t Up e back free s f h = tt
-second_over t Down e back free (OnCall c a) f h = follow_by (t + 1) a (net_unlinked 1 c (t + 1) e.booking.end).reply (net_unlinked 1 c (t + 1) e.booking.end).next (later_by_one t a (was_by t e.booking (phase_of c.state) a f.activity))
-second_over t Down e back free Unoffered f h = waits_by e (t + 1) (t + 1) false false
-second_over t Down e back free (Carried from until) f h = omega (arith, h)
-second_over t Down e back free s f h = tt
+second_over t (Down rules) e back free (OnCall c a) f h = follow_by (t + 1) a (net_unlinked rules 1 c (t + 1) e.booking.end).reply (net_unlinked rules 1 c (t + 1) e.booking.end).next (later_by_one t a (was_by t e.booking (phase_of c.state) a f.activity))
+second_over t (Down rules) e back free Unoffered f h = waits_by e (t + 1) (t + 1) false false
+second_over t (Down rules) e back free (Carried from until) f h = omega (arith, h)
+second_over t (Down rules) e back free s f h = tt
 
 second_lived : (link : Link) (d : Day) (e : Entry) → EntryFits d.moment e → Lived d.moment e → Lived (d.moment + 1) (after_in link d e)
 second_lived link d e f h = record {
@@ -174,7 +174,7 @@ read_lived u d (Ok pm) f h = from_lived u d pm pm.reference f h
 event_lived : (d : Day) (e : LiveEvent) → AllByRecursion (EntryFits d.moment) d.entries → AllLived d → AllLived (live_happens d e).day
 event_lived d (OnLink Tick) f h = by_cases (nat_le 300000 d.moment) _ _ (λ (x : Sent Day). AllLived x.day) (λ _. h) (λ _. seconds_lived Up d d.entries f h)
 event_lived d (OnLink (Receive octets)) f h = read_lived Three d (message_at octets) f h
-event_lived d WithoutLink f h = by_cases (nat_le 300000 d.moment) _ _ AllLived (λ _. h) (λ _. seconds_lived Down d d.entries f h)
+event_lived d (WithoutLink rules) f h = by_cases (nat_le 300000 d.moment) _ _ AllLived (λ _. h) (λ _. seconds_lived (Down rules) d d.entries f h)
 event_lived d (Sold booking) f h = h
 event_lived d (HeardByRulesTwo octets) f h = read_lived Two d (message_at octets) f h
 

@@ -49,7 +49,7 @@ says t back free e s o h = absurd (none≢some o h)
 
 pub in_says : (link : Link) (t : ℕ) (back free : Bool) (e : Entry) (s : Standing) (o : Outgoing) → (second_by link e t back free s).said ≡ Some o → WasLive t free (with_standing e s)
 in_says Up t back free e s o h = says t back free e s o h
-in_says Down t back free e s o h = unlinked e t s (λ m. m.said ≡ Some o → WasLive t free (with_standing e s)) (λ c a p _. Before (ap is_live p)) (λ now. never_offered t free (with_standing e s) (says t false false e s o now)) h
+in_says (Down rules) t back free e s o h = unlinked rules e t s (λ m. m.said ≡ Some o → WasLive t free (with_standing e s)) (λ c a p _. Before (ap is_live p)) (λ now. never_offered t free (with_standing e s) (says t false false e s o now)) h
 
 pub was_live : (link : Link) (d : Day) (e : Entry) (o : Outgoing) → (second_in link d e).said ≡ Some o → WasLive (d.moment + 1) (is_free d e.channel) e
 was_live link d e o h = in_says link (d.moment + 1) (is_back d) (is_free d e.channel) e e.standing o h

@@ -51,7 +51,7 @@ refused_stays t back free e s h = absurd (false≢true h)
 
 pub refused_stays_in : (link : Link) (t : ℕ) (back free : Bool) (e : Entry) (s : Standing) → is_refused s ≡ true → second_by link e t back free s ≡ stays s
 refused_stays_in Up t back free e s h = refused_stays t back free e s h
-refused_stays_in Down t back free e s h = unlinked e t s (λ m. m ≡ stays s) (λ c a p. absurd (true≢false (sym h ∙ ap is_refused p))) (refused_stays t false false e s h)
+refused_stays_in (Down rules) t back free e s h = unlinked rules e t s (λ m. m ≡ stays s) (λ c a p. absurd (true≢false (sym h ∙ ap is_refused p))) (refused_stays t false false e s h)
 
 pub no_channel : (e : Entry) → Seated e → (IsChannel e.channel → ⊥) → is_refused e.standing ≡ true
 no_channel e seat never = decide (is_refused e.standing) (λ yes. yes) (λ accepted. absurd (never (seat.channel accepted)))

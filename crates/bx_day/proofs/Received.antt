@@ -1,5 +1,5 @@
 -- What a message does to a day is what the definition says, and a day stays one that an exchange may be in.
-use Rattle.bx_calls.specs.declared.rules.Rules.TheVariants.{Three}
+use Rattle.bx_events.specs.declared.rules.Rules.TheVariants.{Three}
 use Rattle.std.proofs.Common.{◌≡◌, ℕ, zero, suc, ◌+◌, ◌≤◌, ◌<◌, ◌==◌, ◌&&◌, ◌||◌, not, Bool, true, false, List, [], ◌∷◌, length, Option, Some, None, arith, refl, sym, subst, ap, ◌∙◌, slice_set, nat_le, nat_lt, ◌≢◌, inl, inr, if◌then◌else◌}
 use Rattle.std.specs.Prelude.{is_some, IfSome}
 use Rattle.std.specs.List.{position}

@@ -1,4 +1,6 @@
 -- A tick keeps what is true of one booking.
+use Rattle.bx_events.specs.declared.rules.Rules.TheVariants.{Two, Three}
+use Rattle.bx_events.specs.declared.rules.Rules.{Rules}
 use Rattle.std.proofs.Common.{◌≡◌, ℕ, ◌+◌, ◌≤◌, ◌<◌, Bool, true, false, Some, arith, refl, nat_le, if◌then◌else◌}
 use Rattle.std.proofs.lemmas.Bool.{leb-false}
 use Rattle.bx_calls.specs.declared.transition.Transition.{Transition}
@@ -9,12 +11,12 @@ use Rattle.bx_calls.specs.declared.net_state.Offer.TheVariants.{First, Second, A
 use Rattle.bx_calls.specs.declared.times.Times.TheVariants.{NotYet, Once, Twice}
 use Rattle.bx_calls.specs.declared.net_state.NetState.{NetState}
 use Rattle.bx_calls.specs.declared.net_state.NetState.TheVariants.{OutgoingCallProceeding, CallPresent, IncomingCallProceeding, CallReceived, Active, Enquiring, DisconnectIndication, ReleaseRequest}
-use Rattle.bx_calls.specs.NetTable.{net_offer_due, net_second, net_unlinked}
+use Rattle.bx_calls.specs.NetTable.{net_offer_due, net_second, net_rings_on, net_unlinked}
 use Rattle.bx_day.specs.Moves.{activity_after, is_active, follows}
 use Rattle.bx_day.specs.declared.entry.Entry.{Entry}
 use Rattle.bx_day.specs.declared.entry.Activity.{Activity}
 use Rattle.bx_day.specs.declared.entry.Standing.TheVariants.{OnCall}
-use Rattle.bx_day.specs.Invariant.{phase_of, PhaseFits, DueFits, ActivityFits, Clearing, CallFits, EntryFits}
+use Rattle.bx_day.specs.Invariant.{phase_of, PhaseFits, DueFits, ActivityFits, Ringing, Clearing, CallFits, EntryFits}
 use Rattle.bx_day.proofs.ActivityLemmas.{ringing_kept, talking_kept, clearing_kept, ringing_clears, talking_clears, ringing_talks, ringing_over, clearing_over}
 
 abbrev pub call_of : ℕ → ℕ → NetOrigin → NetState → PlainNetCall
@@ -144,37 +146,44 @@ still_due t due n h = (omega (arith, h.0), omega (arith, h.1))
 ends_unlinked : (t : ℕ) (e : Entry) (r ch : ℕ) (o : NetOrigin) (s : NetState) (a : Activity) → CallFits t e (call_of r ch o s) a → ActivityFits (t + 1) e.booking Clearing (activity_after a false (t + 1)) → EntryFits (t + 1) (on_call (t + 1) e a (call_of r ch o (DisconnectIndication 16 (t + 1 + 1))))
 ends_unlinked t e r ch o s a h act = goes_on t (t + 1) e r ch o s a (DisconnectIndication 16 (t + 1 + 1)) h tt (omega arith, omega arith) act
 
-pub unlinked_fits : (t : ℕ) (e : Entry) (r ch : ℕ) (o : NetOrigin) (s : NetState) (a : Activity) → CallFits t e (call_of r ch o s) a → StepFits (t + 1) e a (net_unlinked 1 (call_of r ch o s) (t + 1) e.booking.end)
-unlinked_fits t e r ch o OutgoingCallProceeding a h =
+-- a call that rings goes on to ring, or is to be asked for
+rings_on_fits : (rules : Rules) (t : ℕ) (e : Entry) (r ch : ℕ) (o : NetOrigin) (s later : NetState) (a : Activity) → CallFits t e (call_of r ch o s) a → e.booking.start ≤ t + 1 → t + 1 < e.booking.end → ActivityFits t e.booking Ringing a → EntryFits (t + 1) (on_call (t + 1) e a (call_of r ch o later)) → EntryFits (t + 1) (on_call (t + 1) e a (call_of r ch o (net_rings_on rules (t + 1) later)))
+rings_on_fits Two t e r ch o s later a h begun late act fits = fits
+rings_on_fits Three t e r ch o s later a h begun late act fits = goes_on t (t + 1) e r ch o s a (CallPresent Unlinked (t + 1 + 1)) h (begun, late) (omega arith, omega arith) (ringing_kept t (t + 1) e.booking a act)
+
+pub unlinked_fits : (rules : Rules) (t : ℕ) (e : Entry) (r ch : ℕ) (o : NetOrigin) (s : NetState) (a : Activity) → CallFits t e (call_of r ch o s) a → StepFits (t + 1) e a (net_unlinked rules 1 (call_of r ch o s) (t + 1) e.booking.end)
+unlinked_fits rules t e r ch o OutgoingCallProceeding a h =
     let b = e.booking in
     let s = OutgoingCallProceeding in
     by_test (nat_le b.end (t + 1)) (t + 1) e a _ _ (λ ended. ends_unlinked t e r ch o s a h (ringing_clears t (t + 1) b a h.activity))
     (λ runs. let late : t + 1 < b.end = leb-false b.end (t + 1) runs in goes_on t (t + 1) e r ch o s a s h (omega arith, late) tt (ringing_kept t (t + 1) b a h.activity))
-unlinked_fits t e r ch o (CallPresent again due) a h =
+unlinked_fits rules t e r ch o (CallPresent again due) a h =
     let b = e.booking in
     let s = CallPresent again due in
     by_test (nat_le b.end (t + 1)) (t + 1) e a _ _ (λ ended. ends_unlinked t e r ch o s a h (ringing_clears t (t + 1) b a h.activity))
     (λ runs. let late : t + 1 < b.end = leb-false b.end (t + 1) runs in goes_on t (t + 1) e r ch o s a (CallPresent Unlinked (t + 1 + 1)) h (omega arith, late) (omega arith, omega arith) (ringing_kept t (t + 1) b a h.activity))
-unlinked_fits t e r ch o (IncomingCallProceeding due) a h =
+unlinked_fits rules t e r ch o (IncomingCallProceeding due) a h =
     let b = e.booking in
     let s = IncomingCallProceeding due in
     by_test (nat_le b.end (t + 1)) (t + 1) e a _ _ (λ ended. ends_unlinked t e r ch o s a h (ringing_clears t (t + 1) b a h.activity))
-    (λ runs. let late : t + 1 < b.end = leb-false b.end (t + 1) runs in goes_on t (t + 1) e r ch o s a (IncomingCallProceeding (due + 1)) h (omega arith, late) (still_due t due 10 h.due) (ringing_kept t (t + 1) b a h.activity))
-unlinked_fits t e r ch o (CallReceived due) a h =
+    (λ runs. let late : t + 1 < b.end = leb-false b.end (t + 1) runs in
+    rings_on_fits rules t e r ch o s (IncomingCallProceeding (due + 1)) a h (omega arith) late h.activity (goes_on t (t + 1) e r ch o s a (IncomingCallProceeding (due + 1)) h (omega arith, late) (still_due t due 10 h.due) (ringing_kept t (t + 1) b a h.activity)))
+unlinked_fits rules t e r ch o (CallReceived due) a h =
     let b = e.booking in
     let s = CallReceived due in
     by_test (nat_le b.end (t + 1)) (t + 1) e a _ _ (λ ended. ends_unlinked t e r ch o s a h (ringing_clears t (t + 1) b a h.activity))
-    (λ runs. let late : t + 1 < b.end = leb-false b.end (t + 1) runs in goes_on t (t + 1) e r ch o s a (CallReceived (due + 1)) h (omega arith, late) (still_due t due 180 h.due) (ringing_kept t (t + 1) b a h.activity))
-unlinked_fits t e r ch o Active a h =
+    (λ runs. let late : t + 1 < b.end = leb-false b.end (t + 1) runs in
+    rings_on_fits rules t e r ch o s (CallReceived (due + 1)) a h (omega arith) late h.activity (goes_on t (t + 1) e r ch o s a (CallReceived (due + 1)) h (omega arith, late) (still_due t due 180 h.due) (ringing_kept t (t + 1) b a h.activity)))
+unlinked_fits rules t e r ch o Active a h =
     let b = e.booking in
     by_test (nat_le b.end (t + 1)) (t + 1) e a _ _ (λ ended. ends_unlinked t e r ch o Active a h (talking_clears t (t + 1) b a (omega arith) (omega arith) h.activity))
     (λ runs. let late : t + 1 < b.end = leb-false b.end (t + 1) runs in goes_on t (t + 1) e r ch o Active a (Enquiring NotYet (t + 1 + 1)) h (omega arith, late) (omega arith, omega arith) (talking_kept t (t + 1) b a (omega arith) h.activity))
-unlinked_fits t e r ch o (Enquiring asked due) a h =
+unlinked_fits rules t e r ch o (Enquiring asked due) a h =
     let b = e.booking in
     let s = Enquiring asked due in
     by_test (nat_le b.end (t + 1)) (t + 1) e a _ _ (λ ended. ends_unlinked t e r ch o s a h (talking_clears t (t + 1) b a (omega arith) (omega (arith, h.phase.1)) h.activity))
     (λ runs. let late : t + 1 < b.end = leb-false b.end (t + 1) runs in goes_on t (t + 1) e r ch o s a (Enquiring NotYet (t + 1 + 1)) h (omega arith, late) (omega arith, omega arith) (talking_kept t (t + 1) b a (omega arith) h.activity))
-unlinked_fits t e r ch o (DisconnectIndication cause due) a h =
+unlinked_fits rules t e r ch o (DisconnectIndication cause due) a h =
     goes_on t (t + 1) e r ch o (DisconnectIndication cause due) a (DisconnectIndication cause (t + 1 + 1)) h tt (omega arith, omega arith) (clearing_kept t (t + 1) e.booking a (omega arith) h.activity)
-unlinked_fits t e r ch o (ReleaseRequest again cause due) a h =
+unlinked_fits rules t e r ch o (ReleaseRequest again cause due) a h =
     goes_on t (t + 1) e r ch o (ReleaseRequest again cause due) a (ReleaseRequest NotYet cause (t + 1 + 1)) h tt (omega arith, omega arith) (clearing_kept t (t + 1) e.booking a (omega arith) h.activity)

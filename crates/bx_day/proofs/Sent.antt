@@ -1,6 +1,6 @@
 -- What is sent is in its time: SETUP and CALL PROCEEDING only for an accepted booking that runs.
-use Rattle.bx_calls.specs.declared.rules.Rules.TheVariants.{Two, Three}
-use Rattle.bx_calls.specs.declared.rules.Rules.{Rules}
+use Rattle.bx_events.specs.declared.rules.Rules.TheVariants.{Two, Three}
+use Rattle.bx_events.specs.declared.rules.Rules.{Rules}
 use Rattle.std.proofs.Common.{◌≡◌, ℕ, suc, ◌+◌, ◌-◌, ◌≤◌, ◌<◌, not, Bool, true, false, List, [], ◌∷◌, Option, Some, None, arith, refl, sym, subst, ap, ◌∙◌, nat_le, if◌then◌else◌, ◌==◌, Result, Ok, Err}
 use Rattle.std.specs.List.{AllByRecursion, position}
 use Rattle.std.proofs.lemmas.Bool.{false≢true, true≢false, and_from, le-leb, lt-ltb, leb-false}

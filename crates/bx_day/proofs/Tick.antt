@@ -1,4 +1,5 @@
 -- A tick keeps what is true of a day.
+use Rattle.bx_events.specs.declared.rules.Rules.{Rules}
 use Rattle.std.proofs.Common.{◌≡◌, ◌≢◌, ℕ, ◌+◌, ◌≤◌, ◌<◌, ◌==◌, ◌&&◌, ◌||◌, not, Bool, true, false, List, [], ◌∷◌, map, Option, arith, refl, sym, subst, ap, nat_le, nat_lt, if◌then◌else◌}
 use Rattle.std.specs.List.{AllByRecursion}
 use Rattle.std.proofs.lemmas.Bool.{leb-true, leb-false, ltb-true, and_parts, both_ways, eq-eqb, and_from, not-true, false≢true}
@@ -10,7 +11,7 @@ use Rattle.bx_base.specs.Bookings.{Row, is_running}
 use Rattle.bx_channels.specs.Marks.{is_marked}
 use Rattle.bx_day.specs.Day.{is_back, Day, is_live, holds, is_held, is_free}
 use Rattle.bx_day.specs.Ticks.{unlinked_at, second_at, second_by, after_in, waits, tick, passed_in}
-use Rattle.bx_day.specs.Outages.{without_link}
+use Rattle.bx_day.specs.Outages.{without_link_by}
 use Rattle.bx_day.specs.Moves.{follow, follows, over_at}
 use Rattle.bx_calls.specs.NetTable.{net_unlinked}
 use Rattle.bx_calls.specs.Sending.{Sent}
@@ -136,17 +137,17 @@ live_apart d e f p he hf (Offered re ue fe) (Offered rf uf ff) same = p.planned 
 -- ---- a second with a link or without one
 
 -- what holds of a call in a second without a link, and of any other booking at a tick while its channel is held
-pub unlinked : (e : Entry) (t : ℕ) (s : Standing) (P : Moved → Type 0) → ((c : PlainNetCall) (a : Activity) → s ≡ OnCall c a → P (follows a t (net_unlinked 1 c t e.booking.end))) → P (second_at e t false false s) → P (unlinked_at e t s)
-unlinked e t (OnCall c a) P f g = f c a refl
-unlinked e t s P f g = g
+pub unlinked : (rules : Rules) (e : Entry) (t : ℕ) (s : Standing) (P : Moved → Type 0) → ((c : PlainNetCall) (a : Activity) → s ≡ OnCall c a → P (follows a t (net_unlinked rules 1 c t e.booking.end))) → P (second_at e t false false s) → P (unlinked_at rules e t s)
+unlinked rules e t (OnCall c a) P f g = f c a refl
+unlinked rules e t s P f g = g
 
-still_fits : (t : ℕ) (e : Entry) (s : Standing) → EntryFits t (with_standing e s) → EntryFits (t + 1) (with_standing e (unlinked_at e (t + 1) s).standing)
-still_fits t e (OnCall c a) h = unlinked_fits t (with_standing e (OnCall c a)) c.reference c.channel c.origin c.state a h
-still_fits t e s h = entry_fits t e false false s h
+still_fits : (rules : Rules) (t : ℕ) (e : Entry) (s : Standing) → EntryFits t (with_standing e s) → EntryFits (t + 1) (with_standing e (unlinked_at rules e (t + 1) s).standing)
+still_fits rules t e (OnCall c a) h = unlinked_fits rules t (with_standing e (OnCall c a)) c.reference c.channel c.origin c.state a h
+still_fits rules t e s h = entry_fits t e false false s h
 
 pub in_fits : (link : Link) (t : ℕ) (e : Entry) (back free : Bool) (s : Standing) → EntryFits t (with_standing e s) → EntryFits (t + 1) (with_standing e (second_by link e (t + 1) back free s).standing)
 in_fits Up t e back free s h = entry_fits t e back free s h
-in_fits Down t e back free s h = still_fits t e s h
+in_fits (Down rules) t e back free s h = still_fits rules t e s h
 
 pub all_fit : (link : Link) (t : ℕ) (d : Day) → d.moment ≡ t → (es : List Entry) → AllByRecursion (EntryFits d.moment) es → AllByRecursion (EntryFits (d.moment + 1)) (map (after_in link d) es)
 all_fit link t d p [] h = tt
@@ -159,11 +160,11 @@ never_offered t free e (Offered accepted runs f) = absurd (false≢true f)
 
 pub in_live : (link : Link) (t : ℕ) (back free : Bool) (e : Entry) (s : Standing) → is_live (second_by link e t back free s).standing ≡ true → WasLive t free (with_standing e s)
 in_live Up t back free e s live = second_live t back free e s live
-in_live Down t back free e s live = unlinked e t s (λ m. is_live m.standing ≡ true → WasLive t free (with_standing e s)) (λ c a p _. Before (ap is_live p)) (λ now. never_offered t free (with_standing e s) (second_live t false false e s now)) live
+in_live (Down rules) t back free e s live = unlinked rules e t s (λ m. is_live m.standing ≡ true → WasLive t free (with_standing e s)) (λ c a p _. Before (ap is_live p)) (λ now. never_offered t free (with_standing e s) (second_live t false false e s now)) live
 
 pub in_refused : (link : Link) (t : ℕ) (back free : Bool) (e : Entry) (s : Standing) → is_refused (second_by link e t back free s).standing ≡ false → is_refused s ≡ false
 in_refused Up t back free e s h = second_refused t back free e s h
-in_refused Down t back free e s h = unlinked e t s (λ m. is_refused m.standing ≡ false → is_refused s ≡ false) (λ c a p _. ap is_refused p) (second_refused t false false e s) h
+in_refused (Down rules) t back free e s h = unlinked rules e t s (λ m. is_refused m.standing ≡ false → is_refused s ≡ false) (λ c a p _. ap is_refused p) (second_refused t false false e s) h
 
 pub after_apart : (link : Link) (d : Day) (e f : Entry) → Apart e f → Holding (is_held d.entries) e → Holding (is_held d.entries) f → Apart (after_in link d e) (after_in link d f)
 after_apart link d e f p he hf = record {
@@ -185,5 +186,5 @@ passed_fits link d h = record { each = all_fit link d.moment d refl d.entries h.
 pub tick_fits : (d : Day) → DayFits d → DayFits (tick d).day
 tick_fits d h = by_cases (nat_le 300000 d.moment) _ _ (λ (s : Sent Day). DayFits s.day) (λ _. h) (λ _. passed_fits Up d h)
 
-pub without_fits : (d : Day) → DayFits d → DayFits (without_link d)
-without_fits d h = by_cases (nat_le 300000 d.moment) _ _ DayFits (λ _. h) (λ _. passed_fits Down d h)
+pub without_fits : (rules : Rules) (d : Day) → DayFits d → DayFits (without_link_by rules d)
+without_fits rules d h = by_cases (nat_le 300000 d.moment) _ _ DayFits (λ _. h) (λ _. passed_fits (Down rules) d h)

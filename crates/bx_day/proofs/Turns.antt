@@ -59,7 +59,7 @@ second_waits t back free e s h = h
 
 pub in_waits : (link : Link) (t : ℕ) (back free : Bool) (e : Entry) (s : Standing) → is_unoffered (second_by link e t back free s).standing ≡ true → is_unoffered s ≡ true
 in_waits Up t back free e s = second_waits t back free e s
-in_waits Down t back free e s = unlinked e t s (λ m. is_unoffered m.standing ≡ true → is_unoffered s ≡ true) (λ c a p h. absurd (true≢false (sym h ∙ follow_waits a t (net_unlinked 1 c t e.booking.end).reply (net_unlinked 1 c t e.booking.end).next))) (second_waits t false false e s)
+in_waits (Down rules) t back free e s = unlinked rules e t s (λ m. is_unoffered m.standing ≡ true → is_unoffered s ≡ true) (λ c a p h. absurd (true≢false (sym h ∙ follow_waits a t (net_unlinked rules 1 c t e.booking.end).reply (net_unlinked rules 1 c t e.booking.end).next))) (second_waits t false false e s)
 
 pub waited : (link : Link) (d : Day) (c i : ℕ) → waits_on c (entry_at (After link d) i) ≡ true → waits_on c (entry_at d.entries i) ≡ true
 waited link d c i h =
@@ -78,7 +78,7 @@ waits_is s h = absurd (false≢true h)
 -- one that starts later goes on waiting
 in_quiet : (link : Link) (moment t : ℕ) (back free : Bool) (e : Entry) (s : Standing) → is_unoffered s ≡ true → EntryFits moment (with_standing e s) → e.booking.start ≤ e.booking.end → t < booking_due e s → second_by link e t back free s ≡ stays s
 in_quiet Up moment t back free e s waits h order lt = booking_quiet moment t back free e s h order lt
-in_quiet Down moment t back free e s waits h order lt = unlinked e t s (λ m. m ≡ stays s) (λ c a p. absurd (true≢false (sym waits ∙ ap is_unoffered p))) (booking_quiet moment t false false e s h order lt)
+in_quiet (Down rules) moment t back free e s waits h order lt = unlinked rules e t s (λ m. m ≡ stays s) (λ c a p. absurd (true≢false (sym waits ∙ ap is_unoffered p))) (booking_quiet moment t false false e s h order lt)
 
 pub ahead_waits : (link : Link) (d : Day) (i : ℕ) → IsExchange d → i < length d.entries → (entry_at d.entries i).booking.start < (entry_at d.entries i).booking.end → is_unoffered (entry_at d.entries i).standing ≡ true → d.moment + 1 < (entry_at d.entries i).booking.start → second_in link d (entry_at d.entries i) ≡ stays (entry_at d.entries i).standing
 ahead_waits link d i h lt order waits early =
@@ -99,7 +99,7 @@ idle_stays t back free e s live waits = refl
 
 in_idle : (link : Link) (t : ℕ) (back free : Bool) (e : Entry) (s : Standing) → is_live s ≡ false → is_unoffered s ≡ false → second_by link e t back free s ≡ stays s
 in_idle Up t back free e s live waits = idle_stays t back free e s live waits
-in_idle Down t back free e s live waits = unlinked e t s (λ m. m ≡ stays s) (λ c a p. absurd (true≢false (sym (ap is_live p) ∙ live))) (idle_stays t false false e s live waits)
+in_idle (Down rules) t back free e s live waits = unlinked rules e t s (λ m. m ≡ stays s) (λ c a p. absurd (true≢false (sym (ap is_live p) ∙ live))) (idle_stays t false false e s live waits)
 
 -- one that waits, and is not the first
 pub after_first : (es : List Entry) (c i r : ℕ) → IsWaitingOn es c (Some r) → i < length es → waits_on c (entry_at es i) ≡ true → i ≢ r → IsLater es r i

@@ -1,4 +1,5 @@
 -- The slots of the channels after seconds without a link: what is live stays so, and what waits is found anew.
+use Rattle.bx_events.specs.declared.rules.Rules.{Rules}
 use Rattle.std.proofs.Common.{◌≡◌, ℕ, zero, suc, min, ◌+◌, ◌-◌, ◌≤◌, ◌<◌, ◌==◌, ◌&&◌, not, Bool, true, false, List, [], ◌∷◌, length, map, take, drop, ◌++◌, replicate, Option, Some, None, arith, refl, sym, subst, ap, ap₂, ◌∙◌, inl, inr, nat_le, slice_set, length-set, if◌then◌else◌}
 use Rattle.std.specs.Prelude.{is_some}
 use Rattle.std.proofs.lemmas.Bool.{leb-false, ltb-true, ltb-false, false≢true, true≢false, cases_eq, cases_lt}
@@ -10,7 +11,7 @@ use Rattle.bx_calls.specs.PlainCalls.{PlainNetCall}
 use Rattle.bx_calls.specs.NetTable.{net_is_clearing}
 use Rattle.bx_day.specs.Day.{Day, is_live, is_unoffered, holds, entry_at, no_entry}
 use Rattle.bx_day.specs.Moves.{follows}
-use Rattle.bx_day.specs.Outages.{without_link, live_day_after}
+use Rattle.bx_day.specs.Outages.{without_link_by, live_day_after}
 use Rattle.bx_day.specs.Invariant.{Pairs, Apart, EntryFits, is_refused}
 use Rattle.bx_day.specs.Outlasting.{unlinked_for, outlasted, outlasts, IsTimedBy, AreOutlasting, starts_before, with_waiting, IsEarliestOn, AreEarliest}
 use Rattle.bx_day.specs.Passing.{day_of}
@@ -145,48 +146,48 @@ earliest_waits es c o apart ordered h = record {
 
 -- ---- what becomes of the bookings
 
-call_live : (n u : ℕ) (b : Row) (s : Standing) → is_live (outlasted n u b s) ≡ is_live s
-call_live n u b (OnCall c a) = by_cases (not (net_is_clearing c.state) && nat_le b.end u) _ _ (λ (step : Transition PlainNetCall). is_live (follows a b.end step).standing ≡ true) (λ _. refl) (λ _. refl)
-call_live n u b Unoffered = by_cases (nat_le b.end u) _ _ (λ (s : Standing). is_live s ≡ false) (λ _. refl) (λ _. refl)
-call_live n u b s = refl
+call_live : (rules : Rules) (n u : ℕ) (b : Row) (s : Standing) → is_live (outlasted rules n u b s) ≡ is_live s
+call_live rules n u b (OnCall c a) = by_cases (not (net_is_clearing c.state) && nat_le b.end u) _ _ (λ (step : Transition PlainNetCall). is_live (follows a b.end step).standing ≡ true) (λ _. refl) (λ _. refl)
+call_live rules n u b Unoffered = by_cases (nat_le b.end u) _ _ (λ (s : Standing). is_live s ≡ false) (λ _. refl) (λ _. refl)
+call_live rules n u b s = refl
 
-same_refused : (n u : ℕ) (b : Row) (s : Standing) → is_refused (outlasted n u b s) ≡ is_refused s
-same_refused n u b (OnCall c a) = by_cases (not (net_is_clearing c.state) && nat_le b.end u) _ _ (λ (step : Transition PlainNetCall). is_refused (follows a b.end step).standing ≡ false) (λ _. refl) (λ _. refl)
-same_refused n u b Unoffered = by_cases (nat_le b.end u) _ _ (λ (s : Standing). is_refused s ≡ false) (λ _. refl) (λ _. refl)
-same_refused n u b s = refl
+same_refused : (rules : Rules) (n u : ℕ) (b : Row) (s : Standing) → is_refused (outlasted rules n u b s) ≡ is_refused s
+same_refused rules n u b (OnCall c a) = by_cases (not (net_is_clearing c.state) && nat_le b.end u) _ _ (λ (step : Transition PlainNetCall). is_refused (follows a b.end step).standing ≡ false) (λ _. refl) (λ _. refl)
+same_refused rules n u b Unoffered = by_cases (nat_le b.end u) _ _ (λ (s : Standing). is_refused s ≡ false) (λ _. refl) (λ _. refl)
+same_refused rules n u b s = refl
 
-still_waits : (n u : ℕ) (b : Row) (s : Standing) → u < b.end → is_unoffered s ≡ true → is_unoffered (outlasted n u b s) ≡ true
-still_waits n u b Unoffered early h = ap (λ x. is_unoffered (if x then Missed else Unoffered)) (late b.end u early)
-still_waits n u b s early h = absurd (false≢true h)
+still_waits : (rules : Rules) (n u : ℕ) (b : Row) (s : Standing) → u < b.end → is_unoffered s ≡ true → is_unoffered (outlasted rules n u b s) ≡ true
+still_waits rules n u b Unoffered early h = ap (λ x. is_unoffered (if x then Missed else Unoffered)) (late b.end u early)
+still_waits rules n u b s early h = absurd (false≢true h)
 
-at_outlasts : (n u : ℕ) (es : List Entry) (i : ℕ) → entry_at (map (outlasts n u) es) i ≡ outlasts n u (entry_at es i)
-at_outlasts n u [] i = refl
-at_outlasts n u (e ∷ es) zero = refl
-at_outlasts n u (e ∷ es) (suc i) = at_outlasts n u es i
+at_outlasts : (rules : Rules) (n u : ℕ) (es : List Entry) (i : ℕ) → entry_at (map (outlasts rules n u) es) i ≡ outlasts rules n u (entry_at es i)
+at_outlasts rules n u [] i = refl
+at_outlasts rules n u (e ∷ es) zero = refl
+at_outlasts rules n u (e ∷ es) (suc i) = at_outlasts rules n u es i
 
-outlasts_size : (n u : ℕ) (es : List Entry) → length (map (outlasts n u) es) ≡ length es
-outlasts_size n u [] = refl
-outlasts_size n u (e ∷ es) = ap suc (outlasts_size n u es)
+outlasts_size : (rules : Rules) (n u : ℕ) (es : List Entry) → length (map (outlasts rules n u) es) ≡ length es
+outlasts_size rules n u [] = refl
+outlasts_size rules n u (e ∷ es) = ap suc (outlasts_size rules n u es)
 
-outlasts_seats : (n u : ℕ) (es : List Entry) → SameSeats es (map (outlasts n u) es)
-outlasts_seats n u es = record {
-  size = sym (outlasts_size n u es);
-  booking = λ i. sym (ap (λ (e : Entry). e.booking) (at_outlasts n u es i));
-  channel = λ i. sym (ap (λ (e : Entry). e.channel) (at_outlasts n u es i));
-  refused = λ i. sym (ap (λ (e : Entry). is_refused e.standing) (at_outlasts n u es i) ∙ same_refused n u (entry_at es i).booking (entry_at es i).standing);
+outlasts_seats : (rules : Rules) (n u : ℕ) (es : List Entry) → SameSeats es (map (outlasts rules n u) es)
+outlasts_seats rules n u es = record {
+  size = sym (outlasts_size rules n u es);
+  booking = λ i. sym (ap (λ (e : Entry). e.booking) (at_outlasts rules n u es i));
+  channel = λ i. sym (ap (λ (e : Entry). e.channel) (at_outlasts rules n u es i));
+  refused = λ i. sym (ap (λ (e : Entry). is_refused e.standing) (at_outlasts rules n u es i) ∙ same_refused rules n u (entry_at es i).booking (entry_at es i).standing);
 }
 
-holds_same : (n u c : ℕ) (es : List Entry) (i : ℕ) → holds c (entry_at (map (outlasts n u) es) i) ≡ holds c (entry_at es i)
-holds_same n u c es i = ap (holds c) (at_outlasts n u es i) ∙ ap (λ x. x && ((entry_at es i).channel == c)) (call_live n u (entry_at es i).booking (entry_at es i).standing)
+holds_same : (rules : Rules) (n u c : ℕ) (es : List Entry) (i : ℕ) → holds c (entry_at (map (outlasts rules n u) es) i) ≡ holds c (entry_at es i)
+holds_same rules n u c es i = ap (holds c) (at_outlasts rules n u es i) ∙ ap (λ x. x && ((entry_at es i).channel == c)) (call_live rules n u (entry_at es i).booking (entry_at es i).standing)
 
 -- ---- the slots
 
-pub outlasted_slots : (n : ℕ) (d : Day) (live waiting following waiting' : List (Option ℕ)) → IsExchange (outlasts_day n d) → AreSlots d live waiting following → AreEarliest (outlasts_day n d).entries (length (outlasts_day n d).entries) waiting' → AreSlots (outlasts_day n d) live waiting' following
-outlasted_slots n d live waiting following waiting' h s anew =
+pub outlasted_slots : (rules : Rules) (n : ℕ) (d : Day) (live waiting following waiting' : List (Option ℕ)) → IsExchange (outlasts_day rules n d) → AreSlots d live waiting following → AreEarliest (outlasts_day rules n d).entries (length (outlasts_day rules n d).entries) waiting' → AreSlots (outlasts_day rules n d) live waiting' following
+outlasted_slots rules n d live waiting following waiting' h s anew =
     let u = d.moment + n in
     let es = d.entries in
-    let now = map (outlasts n u) es in
-    let seats = outlasts_seats n u es in
+    let now = map (outlasts rules n u) es in
+    let seats = outlasts_seats rules n u es in
     let ordered = ordered_kept es now seats s.ordered in
     let back : (i : ℕ) → i < length now → i < length es = λ i lt. subst (λ m. i < m) (sym seats.size) lt in
     record {
@@ -194,8 +195,8 @@ outlasted_slots n d live waiting following waiting' h s anew =
       waiting_size = anew.size;
       after_size = s.after_size ∙ seats.size;
       lives = λ c. record {
-        there = λ i is. (let p = (s.lives c).there i is in (subst (λ m. i < m) seats.size p.0, holds_same n u c es i ∙ p.1));
-        each = λ i lt held. (s.lives c).each i (back i lt) (sym (holds_same n u c es i) ∙ held);
+        there = λ i is. (let p = (s.lives c).there i is in (subst (λ m. i < m) seats.size p.0, holds_same rules n u c es i ∙ p.1));
+        each = λ i lt held. (s.lives c).each i (back i lt) (sym (holds_same rules n u c es i) ∙ held);
       };
       waits = λ c. earliest_waits now c (slot_at waiting' c) h.day.pairs ordered (anew.each c);
       followings = λ r lt accepted. after_kept es now r (slot_at following r) seats (s.followings r (back r lt) (seats.refused r ∙ accepted));
@@ -203,7 +204,7 @@ outlasted_slots n d live waiting following waiting' h s anew =
           let b = (entry_at es i).booking in
           let start : (entry_at now i).booking.start ≡ b.start = ap (λ (x : Row). x.start) (sym (seats.booking i)) in
           let own : b.start < b.end = s.ordered i (back i lt) in
-          ap (λ (e : Entry). is_unoffered e.standing) (at_outlasts n u es i) ∙ still_waits n u b (entry_at es i).standing (omega (arith, early, start, own)) (s.ahead i (back i lt) (seats.refused i ∙ accepted) (omega (arith, early, start))));
+          ap (λ (e : Entry). is_unoffered e.standing) (at_outlasts rules n u es i) ∙ still_waits rules n u b (entry_at es i).standing (omega (arith, early, start, own)) (s.ahead i (back i lt) (seats.refused i ∙ accepted) (omega (arith, early, start))));
       ordered = ordered;
     }
 
@@ -215,22 +216,22 @@ same_entries (e ∷ es) (f ∷ fs) size h = ap₂ (λ x xs. x ∷ xs) (h 0 (omeg
 same_entries es fs size h = absurd (omega (arith, size))
 
 -- what the pass over the bookings leaves
-pub all_outlasted : (n : ℕ) (d : Day) (now : List Entry) → n ≤ 300000 → IsExchange d → AreOutlasting n (d.moment + n) (length d.entries) d.entries now → now ≡ map (outlasts n (d.moment + n)) d.entries
-all_outlasted n d now few h p = same_entries now (map (outlasts n (d.moment + n)) d.entries) (p.size ∙ sym (outlasts_size n (d.moment + n) d.entries)) (λ i lt.
-    let inside : i < length d.entries = omega (arith, lt, outlasts_size n (d.moment + n) d.entries) in
+pub all_outlasted : (rules : Rules) (n : ℕ) (d : Day) (now : List Entry) → n ≤ 300000 → IsExchange d → AreOutlasting rules n (d.moment + n) (length d.entries) d.entries now → now ≡ map (outlasts rules n (d.moment + n)) d.entries
+all_outlasted rules n d now few h p = same_entries now (map (outlasts rules n (d.moment + n)) d.entries) (p.size ∙ sym (outlasts_size rules n (d.moment + n) d.entries)) (λ i lt.
+    let inside : i < length d.entries = omega (arith, lt, outlasts_size rules n (d.moment + n) d.entries) in
     let e = entry_at d.entries i in
-    p.done i (d.moment + 180) inside inside (fits_timed d.moment e e.standing (each_at (EntryFits d.moment) d.entries i inside h.day.each)) (omega (arith, few, h.moment)) ∙ sym (at_outlasts n (d.moment + n) d.entries i))
+    p.done i (d.moment + 180) inside inside (fits_timed d.moment e e.standing (each_at (EntryFits d.moment) d.entries i inside h.day.each)) (omega (arith, few, h.moment)) ∙ sym (at_outlasts rules n (d.moment + n) d.entries i))
 
-lives_on : (k : ℕ) (d : Day) → IsExchange d → IsExchange (live_day_after (replicate k WithoutLink) d)
-lives_on zero d h = h
-lives_on (suc k) d h = lives_on k (without_link d) (by_cases (nat_le 300000 d.moment) _ _ IsExchange (λ _. h) (λ early. passed_stays Down d (leb-false 300000 d.moment early) h))
+lives_on : (rules : Rules) (k : ℕ) (d : Day) → IsExchange d → IsExchange (live_day_after (replicate k (WithoutLink rules)) d)
+lives_on rules zero d h = h
+lives_on rules (suc k) d h = lives_on rules k (without_link_by rules d) (by_cases (nat_le 300000 d.moment) _ _ IsExchange (λ _. h) (λ early. passed_stays (Down rules) d (leb-false 300000 d.moment early) h))
 
-pub outlasted_exchange : (k : ℕ) (d : Day) → IsExchange d → IsExchange (outlasts_day (seconds_left k d) d)
-outlasted_exchange k d h = subst IsExchange (sym (skipped k d h)) (lives_on k d h)
+pub outlasted_exchange : (rules : Rules) (k : ℕ) (d : Day) → IsExchange d → IsExchange (outlasts_day rules (seconds_left k d) d)
+outlasted_exchange rules k d h = subst IsExchange (sym (skipped rules k d h)) (lives_on rules k d h)
 
 -- one more booking of the pass
-pub one_outlasts : (n t k : ℕ) (before now : List Entry) (e e' : Entry) (s : Standing) → k < length now → e ≡ entry_at now k → e' ≡ entry_at now k → ((latest : ℕ) → IsTimedBy latest e.standing → latest + n ≤ 4294967295 → s ≡ outlasted n t e.booking e.standing) → AreOutlasting n t k before now → AreOutlasting n t (k + 1) before (slice_set now k (record e' { standing = s }))
-one_outlasts n t k before now e e' s lt here again becomes h = record {
+pub one_outlasts : (rules : Rules) (n t k : ℕ) (before now : List Entry) (e e' : Entry) (s : Standing) → k < length now → e ≡ entry_at now k → e' ≡ entry_at now k → ((latest : ℕ) → IsTimedBy latest e.standing → latest + n ≤ 4294967295 → s ≡ outlasted rules n t e.booking e.standing) → AreOutlasting rules n t k before now → AreOutlasting rules n t (k + 1) before (slice_set now k (record e' { standing = s }))
+one_outlasts rules n t k before now e e' s lt here again becomes h = record {
   size = length-set now k (record e' { standing = s }) ∙ h.size;
   done = λ i latest low inside timed room. last_of i k low
       (λ less. get_or-set_other now k i (record e' { standing = s }) no_entry (λ q. absurd (omega (arith, q, less))) ∙ h.done i latest less inside timed room)
@@ -238,22 +239,22 @@ one_outlasts n t k before now e e' s lt here again becomes h = record {
       let first : e ≡ entry_at before k = here ∙ h.left k (omega arith) in
       let second : e' ≡ entry_at before k = again ∙ h.left k (omega arith) in
       let due : IsTimedBy latest (entry_at before k).standing = subst (λ j. IsTimedBy latest (entry_at before j).standing) same timed in
-      let now_is : s ≡ outlasted n t (entry_at before k).booking (entry_at before k).standing = becomes latest (subst (λ (x : Entry). IsTimedBy latest x.standing) (sym first) due) room ∙ ap (λ (x : Entry). outlasted n t x.booking x.standing) first in
-      ap (λ j. entry_at (slice_set now k (record e' { standing = s })) j) same ∙ get_or-set_same now k (record e' { standing = s }) no_entry lt ∙ ap₂ (λ (x : Entry) y. record x { standing = y }) second now_is ∙ sym (ap (λ j. outlasts n t (entry_at before j)) same));
+      let now_is : s ≡ outlasted rules n t (entry_at before k).booking (entry_at before k).standing = becomes latest (subst (λ (x : Entry). IsTimedBy latest x.standing) (sym first) due) room ∙ ap (λ (x : Entry). outlasted rules n t x.booking x.standing) first in
+      ap (λ j. entry_at (slice_set now k (record e' { standing = s })) j) same ∙ get_or-set_same now k (record e' { standing = s }) no_entry lt ∙ ap₂ (λ (x : Entry) y. record x { standing = y }) second now_is ∙ sym (ap (λ j. outlasts rules n t (entry_at before j)) same));
   left = λ i high. get_or-set_other now k i (record e' { standing = s }) no_entry (λ q. absurd (omega (arith, q, high))) ∙ h.left i (omega (arith, high));
 }
 
 -- the day that is left, from its parts
-pub skip_day : (k n before len l : ℕ) (d : Day) (seen new : List Entry) → l ≡ unlinked_for n before d.unlinked → before ≡ d.moment → n ≡ min k (300000 - before) → IsExchange d → seen ≡ d.entries → len ≡ length d.entries → AreOutlasting n (before + n) (length seen) seen new → day_of (before + n) l (take len (new ++ drop (length new) d.entries)) d.maintenance ≡ outlasts_day (seconds_left k d) d
-skip_day k n before len l d seen new last at left h same size p =
+pub skip_day : (rules : Rules) (k n before len l : ℕ) (d : Day) (seen new : List Entry) → l ≡ unlinked_for n before d.unlinked → before ≡ d.moment → n ≡ min k (300000 - before) → IsExchange d → seen ≡ d.entries → len ≡ length d.entries → AreOutlasting rules n (before + n) (length seen) seen new → day_of (before + n) l (take len (new ++ drop (length new) d.entries)) d.maintenance ≡ outlasts_day rules (seconds_left k d) d
+skip_day rules k n before len l d seen new last at left h same size p =
     let number : n ≡ seconds_left k d = left ∙ ap (λ m. min k (300000 - m)) at in
     let few : n ≤ 300000 = omega (arith, left) in
-    let q : AreOutlasting n (d.moment + n) (length d.entries) d.entries new = subst (λ (es : List Entry). AreOutlasting n (d.moment + n) (length es) es new) same (subst (λ m. AreOutlasting n (m + n) (length seen) seen new) at p) in
-    let entries : take len (new ++ drop (length new) d.entries) ≡ map (outlasts n (d.moment + n)) d.entries = refilled len new d.entries q.size size ∙ all_outlasted n d new few h q in
-    ap (λ x. day_of (before + n) x (take len (new ++ drop (length new) d.entries)) d.maintenance) last ∙ ap₂ (λ m es. day_of (m + n) (unlinked_for n m d.unlinked) es d.maintenance) at entries ∙ ap (λ m. outlasts_day m d) number
+    let q : AreOutlasting rules n (d.moment + n) (length d.entries) d.entries new = subst (λ (es : List Entry). AreOutlasting rules n (d.moment + n) (length es) es new) same (subst (λ m. AreOutlasting rules n (m + n) (length seen) seen new) at p) in
+    let entries : take len (new ++ drop (length new) d.entries) ≡ map (outlasts rules n (d.moment + n)) d.entries = refilled len new d.entries q.size size ∙ all_outlasted rules n d new few h q in
+    ap (λ x. day_of (before + n) x (take len (new ++ drop (length new) d.entries)) d.maintenance) last ∙ ap₂ (λ m es. day_of (m + n) (unlinked_for n m d.unlinked) es d.maintenance) at entries ∙ ap (λ m. outlasts_day rules m d) number
 
-pub skip_index : (k : ℕ) (d now : Day) (live waiting following waiting' : List (Option ℕ)) → IsExchange d → now ≡ outlasts_day (seconds_left k d) d → AreSlots d live waiting following → AreEarliest now.entries (length now.entries) waiting' → IsIndexed now live waiting' following 0
-skip_index k d now live waiting following waiting' h is s anew =
-    let whole = outlasted_exchange k d h in
+pub skip_index : (rules : Rules) (k : ℕ) (d now : Day) (live waiting following waiting' : List (Option ℕ)) → IsExchange d → now ≡ outlasts_day rules (seconds_left k d) d → AreSlots d live waiting following → AreEarliest now.entries (length now.entries) waiting' → IsIndexed now live waiting' following 0
+skip_index rules k d now live waiting following waiting' h is s anew =
+    let whole = outlasted_exchange rules k d h in
     subst (λ (x : Day). IsIndexed x live waiting' following 0) (sym is)
-    (indexed_now (outlasts_day (seconds_left k d) d) live waiting' following whole (outlasted_slots (seconds_left k d) d live waiting following waiting' whole s (subst (λ (x : Day). AreEarliest x.entries (length x.entries) waiting') is anew)))
+    (indexed_now (outlasts_day rules (seconds_left k d) d) live waiting' following whole (outlasted_slots rules (seconds_left k d) d live waiting following waiting' whole s (subst (λ (x : Day). AreEarliest x.entries (length x.entries) waiting') is anew)))

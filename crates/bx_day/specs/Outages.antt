@@ -2,23 +2,28 @@
 -- timer runs, nothing is offered and nothing is sent. A booking that ends clears its call for the first tick with a
 -- link. And the days of an exchange that goes through such seconds between its turns on the link.
 -- That a booking is sold changes nothing of the day of the last plan, which has it from the morning on. What a journal of the rules 2
--- heard is heard by these.
+-- heard is heard by these, and a second without a link is gone through by the rules that it tells.
 use Rattle.std.specs.Prelude.{ℕ, ◌+◌, List, [], ◌∷◌, Bool, true, false, ◌&&◌, nat_le, nat_lt, if◌then◌else◌}
 use Rattle.bx_events.specs.Events.{Tick, Receive, LiveEvent, OnLink, WithoutLink, Sold, HeardByRulesTwo}
+use Rattle.bx_events.specs.declared.rules.Rules.{Rules}
 use Rattle.bx_day.specs.declared.entry.Link.TheVariants.{Down}
 use Rattle.bx_day.specs.Day.{Day}
 use Rattle.bx_day.specs.Ticks.{passed_in}
 use Rattle.bx_calls.specs.Sending.{Sent, reply_list}
-use Rattle.bx_calls.specs.declared.rules.Rules.TheVariants.{Two}
+use Rattle.bx_events.specs.declared.rules.Rules.TheVariants.{Two, Three}
 use Rattle.bx_day.specs.Run.{happens, receive_octets_by}
 use Rattle.bx_events.specs.declared.moment.TheConstants.{LAST_MOMENT}
 
+abbrev pub without_link_by : Rules → Day → Day
+without_link_by rules d = if nat_le LAST_MOMENT d.moment then d else (passed_in (Down rules) d).day
+
+-- by the rules of this program
 abbrev pub without_link : Day → Day
-without_link d = if nat_le LAST_MOMENT d.moment then d else (passed_in Down d).day
+without_link d = without_link_by Three d
 
 abbrev pub live_happens : Day → LiveEvent → Sent Day
 live_happens d (OnLink event) = happens d event
-live_happens d WithoutLink = record { day = without_link d; sent = [] }
+live_happens d (WithoutLink rules) = record { day = without_link_by rules d; sent = [] }
 live_happens d (Sold booking) = record { day = d; sent = [] }
 live_happens d (HeardByRulesTwo octets) =
     record { day = (receive_octets_by Two d octets).day; sent = reply_list (receive_octets_by Two d octets).reply }
@@ -46,7 +51,7 @@ one_more x = record { seconds = x.seconds + 1; outages = if x.lasts then x.outag
 abbrev pub lost_by : ℕ → Day → LiveEvent → Lost → Lost
 lost_by m d (OnLink Tick) x = record x { lasts = false }
 lost_by m d (OnLink (Receive octets)) x = x
-lost_by m d WithoutLink x = if nat_le m d.moment && nat_lt d.moment LAST_MOMENT then one_more x else x
+lost_by m d (WithoutLink rules) x = if nat_le m d.moment && nat_lt d.moment LAST_MOMENT then one_more x else x
 lost_by m d (Sold booking) x = x
 lost_by m d (HeardByRulesTwo octets) x = x
 

@@ -1,6 +1,7 @@
 -- Private: many seconds without a link at once.
 use Rattle.std.specs.Prelude.{◌≡◌, ℕ, ◌+◌, ◌==◌, ◌≤◌, ◌<◌, nat_le, nat_lt, Bool, true, ◌&&◌, List, length, Option, Some, None, is_some, if◌then◌else◌, slice_set}
 use Rattle.bx_base.specs.Bookings.{Row}
+use Rattle.bx_events.specs.declared.rules.Rules.{Rules}
 use Rattle.bx_calls.specs.NetTable.{net_unlinked, IsDueBy}
 use Rattle.bx_day.specs.Day.{is_unoffered, entry_at}
 use Rattle.bx_day.specs.Moves.{follows}
@@ -22,20 +23,20 @@ IfTimersFit n s P = (latest : ℕ) → IsTimedBy latest s → latest + n ≤ 429
 abbrev pub unlinked_for : ℕ → ℕ → ℕ → ℕ
 unlinked_for n m before = if n == 0 then before else m + n + 1
 
--- what has become of a booking in n such seconds, of which the last comes to moment t: a call is not Active after its
+-- what has become of a booking in n such seconds, by these rules, of which the last comes to moment t: a call is not Active after its
 -- booking's end
-abbrev pub outlasted : ℕ → ℕ → Row → Standing → Standing
-outlasted n t b (OnCall call activity) = (follows activity b.end (net_unlinked n call t b.end)).standing
-outlasted n t b Unoffered = if nat_le b.end t then Missed else Unoffered
-outlasted n t b s = s
+abbrev pub outlasted : Rules → ℕ → ℕ → Row → Standing → Standing
+outlasted rules n t b (OnCall call activity) = (follows activity b.end (net_unlinked rules n call t b.end)).standing
+outlasted rules n t b Unoffered = if nat_le b.end t then Missed else Unoffered
+outlasted rules n t b s = s
 
-abbrev pub outlasts : ℕ → ℕ → Entry → Entry
-outlasts n t e = record e { standing = outlasted n t e.booking e.standing }
+abbrev pub outlasts : Rules → ℕ → ℕ → Entry → Entry
+outlasts rules n t e = record e { standing = outlasted rules n t e.booking e.standing }
 
 -- the bookings below index k did, and no other
-pub record AreOutlasting (n t k : ℕ) (before now : List Entry) : Type 0 where
+pub record AreOutlasting (rules : Rules) (n t k : ℕ) (before now : List Entry) : Type 0 where
   pub size : length now ≡ length before
-  pub done : (i latest : ℕ) → i < k → i < length before → IsTimedBy latest (entry_at before i).standing → latest + n ≤ 4294967295 → entry_at now i ≡ outlasts n t (entry_at before i)
+  pub done : (i latest : ℕ) → i < k → i < length before → IsTimedBy latest (entry_at before i).standing → latest + n ≤ 4294967295 → entry_at now i ≡ outlasts rules n t (entry_at before i)
   pub left : (i : ℕ) → k ≤ i → entry_at now i ≡ entry_at before i
 
 -- ---- the first that waits on each channel, found anew

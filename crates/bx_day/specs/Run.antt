@@ -7,8 +7,8 @@ use Rattle.bx_q931.specs.declared.reference.Reference.{Reference}
 use Rattle.bx_q931.specs.declared.reference.Reference.TheVariants.{Dummy, Value}
 use Rattle.bx_q931.specs.Outgoing.{Outgoing}
 use Rattle.bx_calls.specs.Said.{said_under}
-use Rattle.bx_calls.specs.declared.rules.Rules.{Rules}
-use Rattle.bx_calls.specs.declared.rules.Rules.TheVariants.{Three}
+use Rattle.bx_events.specs.declared.rules.Rules.{Rules}
+use Rattle.bx_events.specs.declared.rules.Rules.TheVariants.{Three}
 use Rattle.bx_day.specs.Day.{Day}
 use Rattle.bx_day.specs.Ticks.{tick}
 use Rattle.bx_day.specs.Receipts.{receive}

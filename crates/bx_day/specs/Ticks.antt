@@ -3,6 +3,7 @@
 use Rattle.std.specs.Prelude.{ℕ, ◌+◌, ◌==◌, nat_le, ◌&&◌, ◌||◌, not, Bool, false, List, [], ◌∷◌, map, Some, if◌then◌else◌, ◌≤◌, length}
 use Rattle.std.specs.List.{list_any, flat_map}
 use Rattle.bx_q931.specs.Outgoing.{Outgoing}
+use Rattle.bx_events.specs.declared.rules.Rules.{Rules}
 use Rattle.bx_calls.specs.Shared.{cons_some}
 use Rattle.bx_calls.specs.NetTable.{net_second, net_unlinked, net_offered}
 use Rattle.bx_calls.specs.Saying.{setup_of}
@@ -33,15 +34,15 @@ second_at e t back free (OnCall call activity) = follows activity t (net_second 
 second_at e t back free Unoffered = waits e t back free
 second_at e t back free s = stays s
 
--- a booking in a second to moment t without a link: no timer runs, and nothing is offered
-abbrev pub unlinked_at : Entry → ℕ → Standing → Moved
-unlinked_at e t (OnCall call activity) = follows activity t (net_unlinked 1 call t e.booking.end)
-unlinked_at e t s = second_at e t false false s
+-- a booking in a second to moment t without a link, by these rules: no timer runs, and nothing is offered
+abbrev pub unlinked_at : Rules → Entry → ℕ → Standing → Moved
+unlinked_at rules e t (OnCall call activity) = follows activity t (net_unlinked rules 1 call t e.booking.end)
+unlinked_at rules e t s = second_at e t false false s
 
 -- by whether there is a link
 abbrev pub second_by : Link → Entry → ℕ → Bool → Bool → Standing → Moved
 second_by Up e t back free s = second_at e t back free s
-second_by Down e t back free s = unlinked_at e t s
+second_by (Down rules) e t back free s = unlinked_at rules e t s
 
 abbrev pub second_in : Link → Day → Entry → Moved
 second_in link d e = second_by link e (d.moment + 1) (is_back d) (is_free d e.channel) e.standing
@@ -65,7 +66,7 @@ maintained_in link d c (b ∷ bs) = (b || list_any (breaks_in link d c) d.entrie
 -- one more than the moment that the last second without a link came to, after a second at this moment
 abbrev pub unlinked_after : Link → ℕ → ℕ → ℕ
 unlinked_after Up moment unlinked = unlinked
-unlinked_after Down moment unlinked = moment + 2
+unlinked_after (Down rules) moment unlinked = moment + 2
 
 -- a second, and what is said in it
 abbrev pub passed_in : Link → Day → Sent Day

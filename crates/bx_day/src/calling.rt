@@ -6,7 +6,7 @@ ghost use Rattle.bx_channels.specs.ChannelNumbers.{IsChannel};
 ghost use Rattle.bx_q931.specs.Messages.{PlainMessage};
 ghost use Rattle.bx_q931.specs.Outgoing.{IsCallReference};
 ghost use Rattle.bx_calls.specs.Said.{said_under};
-ghost use Rattle.bx_calls.specs.declared.rules.Rules.{Rules};
+ghost use Rattle.bx_events.specs.declared.rules.Rules.{Rules};
 ghost use Rattle.bx_channels.specs.Marks.{is_marked};
 ghost use Rattle.bx_day.specs.Day.{is_free, entry_at, every_channel};
 ghost use Rattle.bx_day.specs.Receipts.{is_open, opens, lowest_open, or_else, takes_or, called_on, called};

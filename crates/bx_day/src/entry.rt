@@ -2,6 +2,7 @@
 
 use bx_base::Booking;
 use bx_calls::NetCall;
+use bx_events::Rules;
 use bx_q931::Out;
 
 /// The moments at which a call became and left Active.
@@ -48,9 +49,9 @@ pub struct Moved {
     pub broken: bool,
 }
 
-/// Whether there is a link to the far end in a second.
+/// Whether there is a link to the far end in a second, and by which rules one without it is gone through.
 #[derive(Clone, Copy)]
 pub enum Link {
     Up,
-    Down,
+    Down(Rules),
 }

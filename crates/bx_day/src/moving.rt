@@ -9,9 +9,9 @@ ghost use Rattle.bx_day.specs.Moves.{activity_after, over_at, follows};
 ghost use Rattle.bx_calls.specs.Said.{said_under};
 
 use crate::entry::{Activity, Entry, Link, Moved, Standing};
-use bx_calls::{CallState, NetCall, Next, Rules, Transition};
+use bx_calls::{CallState, NetCall, Next, Transition};
 use bx_channels::Channel;
-use bx_events::LAST_MOMENT;
+use bx_events::{LAST_MOMENT, Rules};
 use bx_q931::Message;
 
 /// The activity of a call, by whether it is Active now.
@@ -104,20 +104,20 @@ pub(crate) fn second(
 {
     match link {
         Link::Up => linked(entry, channel, moment, back, free),
-        Link::Down => unlinked(entry, channel, moment),
+        Link::Down(rules) => unlinked(entry, channel, rules, moment),
     }
 }
 
 /// Without a link no timer runs, and nothing is offered.
-fn unlinked(entry: &Entry, channel: Channel, moment: u32) -> Moved
+fn unlinked(entry: &Entry, channel: Channel, rules: Rules, moment: u32) -> Moved
     requires moment { moment ≤ LAST_MOMENT }
     requires row { IsCallReference entry.now.reference }
     requires channel { channel ≡ entry.now.channel }
-    ensures { IfTimersFit 1 entry.now.standing (result ≡ unlinked_at entry.now moment entry.now.standing) }
+    ensures { IfTimersFit 1 entry.now.standing (result ≡ unlinked_at rules entry.now moment entry.now.standing) }
 {
     match entry.standing {
         Standing::OnCall { call, activity } => {
-            let step = call.on_seconds_unlinked(1, moment, entry.booking.end());
+            let step = call.on_seconds_unlinked(1, rules, moment, entry.booking.end());
             follow(step, activity, moment)
         }
         _ => linked(entry, channel, moment, false, false),

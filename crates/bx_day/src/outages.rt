@@ -14,18 +14,18 @@ use crate::entry::{Entry, Standing};
 use crate::exchange::Exchange;
 use crate::moving::follow;
 use bx_channels::Channel;
-use bx_events::LAST_MOMENT;
+use bx_events::{LAST_MOMENT, Rules};
 
 impl Exchange {
-    /// So many seconds later, in none of which there is a link to the far end: at once what that many seconds without a
-    /// link would leave, up to moment 300,000. It looks at each booking once, however many seconds there are, and takes
+    /// So many seconds later, in none of which there is a link to the far end, by these rules: at once what that many seconds
+    /// without a link would leave, up to moment 300,000. It looks at each booking once, however many seconds there are, and takes
     /// no memory.
-    pub fn skip_without_link(&mut self, seconds: u32)
-        ensures { self.new ≡ live_day_after (replicate seconds WithoutLink) self.old }
+    pub fn skip_without_link(&mut self, seconds: u32, rules: Rules)
+        ensures { self.new ≡ live_day_after (replicate seconds (WithoutLink rules)) self.old }
     {
         let before = self.moment();
         let seconds = seconds.min(LAST_MOMENT - before);
-        outlast(&mut self.entries, seconds, before + seconds);
+        outlast(&mut self.entries, seconds, rules, before + seconds);
         self.waiting = first_waiting(&self.entries);
         self.unlinked = unlinked_for(seconds, before, self.unlinked);
         self.moment = before + seconds;
@@ -46,25 +46,25 @@ fn unlinked_for(seconds: u32, moment: u32, before: u32) -> u32
 }
 
 /// Brings each booking to this moment, after so many seconds without a link.
-fn outlast(entries: &mut [Entry], seconds: u32, moment: u32)
+fn outlast(entries: &mut [Entry], seconds: u32, rules: Rules, moment: u32)
     requires { moment ≤ LAST_MOMENT }
-    ensures { AreOutlasting seconds moment (length entries.old) entries.old entries.new }
+    ensures { AreOutlasting rules seconds moment (length entries.old) entries.old entries.new }
 {
     for index in 0..entries.len() {
-        let standing = outlasted(&entries[index], seconds, moment);
+        let standing = outlasted(&entries[index], seconds, rules, moment);
         entries[index].standing = standing;
     }
 }
 
 /// What has become of a booking at this moment, after so many seconds without a link.
-fn outlasted(entry: &Entry, seconds: u32, moment: u32) -> Standing
+fn outlasted(entry: &Entry, seconds: u32, rules: Rules, moment: u32) -> Standing
     requires { moment ≤ LAST_MOMENT }
-    ensures { IfTimersFit seconds entry.now.standing (result ≡ outlasted seconds moment entry.now.booking entry.now.standing) }
+    ensures { IfTimersFit seconds entry.now.standing (result ≡ outlasted rules seconds moment entry.now.booking entry.now.standing) }
 {
     let end = entry.booking.end();
     match entry.standing {
         Standing::OnCall { call, activity } => {
-            let step = call.on_seconds_unlinked(seconds, moment, end);
+            let step = call.on_seconds_unlinked(seconds, rules, moment, end);
             follow(step, activity, end).standing
         }
         Standing::Unoffered if end <= moment => Standing::Missed,

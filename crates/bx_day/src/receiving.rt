@@ -6,7 +6,7 @@ ghost use Rattle.bx_base.specs.declared.bookings.TheConstants.{MAX_BOOKINGS};
 ghost use Rattle.bx_q931.specs.Messages.{PlainMessage};
 ghost use Rattle.bx_q931.specs.Outgoing.{IsCallReference, out_octets};
 ghost use Rattle.bx_calls.specs.Said.{said_under};
-ghost use Rattle.bx_calls.specs.declared.rules.Rules.TheVariants.{Two};
+ghost use Rattle.bx_events.specs.declared.rules.Rules.TheVariants.{Two};
 ghost use Rattle.bx_day.specs.Day.{is_live, is_unoffered, entry_at};
 ghost use Rattle.bx_day.specs.Receipts.{names, with_moved, received_at, stray, receive, is_open};
 ghost use Rattle.bx_day.specs.SlotSteps.{earlier};

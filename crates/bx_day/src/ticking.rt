@@ -4,7 +4,7 @@ ghost use Rattle.std.specs.Prelude.{◌≡◌, ◌≤◌, ◌<◌, ◌==◌, ◌
 ghost use Rattle.std.specs.List.{AllByRecursion};
 ghost use Rattle.bx_day.specs.Ticks.{tick, passed_in, unlinked_after, SaysOnce};
 ghost use Rattle.bx_day.specs.Day.{is_back};
-ghost use Rattle.bx_day.specs.Outages.{without_link};
+ghost use Rattle.bx_day.specs.Outages.{without_link_by};
 ghost use Rattle.bx_day.specs.Passing.{AreBlocked, MovesOne, MovesAll, MovesOn, SaysOnEach};
 ghost use Rattle.bx_calls.specs.Sending.{in_order, spelled};
 ghost use Rattle.bx_day.specs.Reading.{Seated};
@@ -19,7 +19,7 @@ use arrayvec::ArrayVec;
 use bx_base::ChannelSet;
 use bx_calls::spell;
 use bx_channels::Channel;
-use bx_events::LAST_MOMENT;
+use bx_events::{LAST_MOMENT, Rules};
 use bx_q931::{Octets, Out};
 
 impl Exchange {
@@ -43,14 +43,14 @@ impl Exchange {
         spell(&said)
     }
 
-    /// The next second, in which there is no link to the far end: the moment rises by one, no timer runs, nothing is
+    /// The next second, in which there is no link to the far end, by these rules: the moment rises by one, no timer runs, nothing is
     /// offered and nothing is sent. A live booking whose end has come clears its call at the first tick with a link, and
     /// bookings whose end has come without a call are missed. At moment 300,000 nothing happens.
-    pub fn second_without_link(&mut self)
-        ensures { self.new ≡ without_link self.old }
+    pub fn second_without_link(&mut self, rules: Rules)
+        ensures { self.new ≡ without_link_by rules self.old }
     {
         if self.moment < LAST_MOMENT {
-            self.pass(Link::Down);
+            self.pass(Link::Down(rules));
         }
     }
 
@@ -117,7 +117,7 @@ fn unlinked_after(link: Link, moment: u32, unlinked: u32) -> u32
 {
     match link {
         Link::Up => unlinked,
-        Link::Down => moment + 2,
+        Link::Down(_) => moment + 2,
     }
 }
 

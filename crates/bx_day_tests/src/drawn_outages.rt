@@ -5,6 +5,7 @@ use crate::quiet_seconds::look_same;
 use crate::second_exchange::Second;
 use bx_cases::SHARE;
 use bx_day::Exchange;
+use bx_events::Rules;
 use bx_worked_days::exchange_of;
 use std::alloc::Global;
 use std::test::Fail;
@@ -20,6 +21,8 @@ struct Seen {
     connect: bool,
     setup: bool,
     release: bool,
+    /// A call that rang is to be asked for.
+    rings: bool,
     /// A call that was asked for was released by what was reported of it, became Active, or was not known, and offered again.
     reported: bool,
     connected: bool,
@@ -34,6 +37,7 @@ const NOTHING: Seen = Seen {
     connect: false,
     setup: false,
     release: false,
+    rings: false,
     reported: false,
     connected: false,
     unknown: false,
@@ -46,6 +50,7 @@ const ALL: Seen = Seen {
     connect: true,
     setup: true,
     release: true,
+    rings: true,
     reported: true,
     connected: true,
     unknown: true,
@@ -61,6 +66,7 @@ impl Seen {
             (3, 3) => self.connect = true,
             (6, 6) => self.setup = true,
             (19, 19) => self.release = true,
+            (7 | 9, 6) => self.rings = true,
             _ => {}
         }
     }
@@ -120,7 +126,7 @@ fn go_on(exchange: &mut Exchange, second: &mut Second, seconds: u32, linked: boo
         if linked {
             exchange.tick();
         } else {
-            exchange.second_without_link();
+            exchange.second_without_link(Rules::Three);
         }
         second.second(linked);
         same &= second.agrees(exchange);
@@ -135,7 +141,7 @@ fn skip(exchange: &mut Exchange, seconds: u32, linked: bool) {
             exchange.tick();
         }
     } else {
-        exchange.skip_without_link(seconds);
+        exchange.skip_without_link(seconds, Rules::Three);
     }
 }
 

@@ -6,6 +6,7 @@ use bx_base::{Booking, Bookings, ChannelSet, Plan};
 use bx_cases::SHARE;
 use bx_channels::{Channel, Number};
 use bx_day::{Entry, Exchange, Outcome, Standing};
+use bx_events::Rules;
 use bx_q931::Octets;
 use bx_worked_days::exchange_of;
 use std::alloc::Global;
@@ -185,8 +186,8 @@ impl Days {
     /// Whether a second goes alike, with a link or without one.
     fn second(&mut self, is_linked: bool) -> bool {
         if !is_linked {
-            self.long.second_without_link();
-            self.now.second_without_link();
+            self.long.second_without_link(Rules::Three);
+            self.now.second_without_link(Rules::Three);
             return true;
         }
         let expected = self.long.tick();

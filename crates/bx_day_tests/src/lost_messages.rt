@@ -8,6 +8,7 @@ use bx_base::{Booking, Bookings, ChannelSet, Plan};
 use bx_cases::SHARE;
 use bx_channels::{Channel, Number};
 use bx_day::{Exchange, Outcome};
+use bx_events::Rules;
 use bx_far::Far;
 use bx_q931::Octets;
 use bx_worked_days::{DayEnd, Row, exchange_of, far_end};
@@ -91,7 +92,7 @@ impl Ends {
             Link::Whole => self.turn(u32::MAX),
             Link::Cut(most) => self.turn(most),
             Link::Lost => {
-                self.exchange.second_without_link();
+                self.exchange.second_without_link(Rules::Three);
                 self.far.second_without_link();
                 true
             }

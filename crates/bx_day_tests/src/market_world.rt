@@ -7,7 +7,7 @@ use bx_devices::WriteFailed;
 use bx_events::LiveEvent;
 use bx_frames::{Frame, LinkFault};
 use bx_live::{Begin, CannotLog, Loss, World};
-use bx_market::{Answer, Market};
+use bx_market::{Answer, Market, Request};
 use bx_q931::Octets;
 
 /// What a customer has seen of a batch.
@@ -79,8 +79,9 @@ impl World for MarketWorld {
 impl Market for MarketWorld {
     ghost dealt = { λ s deals t. Unit {0} };
 
-    fn ask(&mut self, _exchange: &Exchange) -> Option<Bookings> {
-        self.batch.take()
+    fn ask(&mut self, _exchange: &Exchange) -> Option<Request> {
+        let batch = self.batch.take()?;
+        Some(Request { tag: None, batch })
     }
 
     fn answer(&mut self, answers: &[Answer]) {

@@ -9,6 +9,7 @@ use bx_cases::messages::{
 };
 use bx_channels::Channel;
 use bx_day::{Exchange, Outcome};
+use bx_events::Rules;
 use bx_worked_days::{Row, exchange_of};
 use std::alloc::Global;
 
@@ -53,6 +54,15 @@ const FAR_STATUS_NULL: &[u8] = &[
     0x08, 0x02, 0x80, 0x01, 0x7D, 0x08, 0x02, 0x80, 0x9E, 0x14, 0x01, 0x00,
 ];
 
+/// U9, Incoming Call Proceeding, and U7, Call Received.
+const FAR_STATUS_PROCEEDING: &[u8] = &[
+    0x08, 0x02, 0x80, 0x01, 0x7D, 0x08, 0x02, 0x80, 0x9E, 0x14, 0x01, 0x09,
+];
+
+const FAR_STATUS_ALERTED: &[u8] = &[
+    0x08, 0x02, 0x80, 0x01, 0x7D, 0x08, 0x02, 0x80, 0x9E, 0x14, 0x01, 0x07,
+];
+
 /// U8, Connect Request.
 const FAR_STATUS_CONNECTING: &[u8] = &[
     0x08, 0x02, 0x80, 0x01, 0x7D, 0x08, 0x02, 0x80, 0x9E, 0x14, 0x01, 0x08,
@@ -87,7 +97,7 @@ const DISCONNECT_41: &[u8] = &[0x08, 0x02, 0x00, 0x01, 0x45, 0x08, 0x02, 0x82, 0
 
 const DISCONNECT_102: &[u8] = &[0x08, 0x02, 0x00, 0x01, 0x45, 0x08, 0x02, 0x82, 0xE6];
 
-static WORKED: [Worked; 22] = [
+static WORKED: [Worked; 24] = [
     Worked {
         name: "a booking that starts without a link is offered in the first second with one",
         bookings: &[(10, 60, 1, false)],
@@ -180,29 +190,62 @@ static WORKED: [Worked; 22] = [
         is_broken: false,
     },
     Worked {
-        name: "T310 stands still",
+        name: "a call in N9 is asked for, and T310 begins anew",
         bookings: &[(10, 100, 1, false)],
         steps: &[
             Step::Linked(10, &[], &[SETUP]),
             Step::Linked(10, PROCEEDING, &[]),
             Step::Without(50),
-            Step::Linked(60, &[], &[DISCONNECT_102]),
+            Step::Linked(51, &[], &[STATUS_ENQUIRY]),
+            Step::Linked(51, FAR_STATUS_PROCEEDING, &[]),
+            Step::Linked(61, &[], &[DISCONNECT_102]),
         ],
         outcomes: &[Outcome::Live],
         held: Some((1, CallState::DisconnectIndication)),
         is_broken: false,
     },
     Worked {
-        name: "T301 stands still",
+        name: "a call in N7 is asked for, and T301 begins anew",
         bookings: &[(10, 500, 1, false)],
         steps: &[
             Step::Linked(10, &[], &[SETUP]),
             Step::Linked(10, ALERTING, &[]),
             Step::Without(210),
-            Step::Linked(390, &[], &[DISCONNECT_102]),
+            Step::Linked(211, &[], &[STATUS_ENQUIRY]),
+            Step::Linked(211, FAR_STATUS_ALERTED, &[]),
+            Step::Linked(391, &[], &[DISCONNECT_102]),
         ],
         outcomes: &[Outcome::Live],
         held: Some((1, CallState::DisconnectIndication)),
+        is_broken: false,
+    },
+    Worked {
+        name: "a call in N7 whose CONNECT was lost is connected behind the outage",
+        bookings: &[(10, 100, 1, false)],
+        steps: &[
+            Step::Linked(10, &[], &[SETUP]),
+            Step::Linked(10, ALERTING, &[]),
+            Step::Without(20),
+            Step::Linked(21, &[], &[STATUS_ENQUIRY]),
+            Step::Linked(21, FAR_STATUS_CONNECTING, &[CONNECT_ACKNOWLEDGE]),
+        ],
+        outcomes: &[Outcome::Live],
+        held: Some((1, CallState::Active)),
+        is_broken: false,
+    },
+    Worked {
+        name: "a call in N9 that the user has not is offered again",
+        bookings: &[(10, 100, 1, false)],
+        steps: &[
+            Step::Linked(10, &[], &[SETUP]),
+            Step::Linked(10, PROCEEDING, &[]),
+            Step::Without(20),
+            Step::Linked(21, &[], &[STATUS_ENQUIRY]),
+            Step::Linked(21, FAR_STATUS_NULL, &[]),
+            Step::Linked(22, &[], &[SETUP]),
+        ],
+        outcomes: &[Outcome::Live],
+        held: Some((1, CallState::CallPresent)),
         is_broken: false,
     },
     Worked {
@@ -838,10 +881,10 @@ static OFFERED: [Worked; 19] = [
 fn goes_without(exchange: &mut Exchange, moment: u32, at_once: bool) {
     let seconds = moment.saturating_sub(exchange.moment());
     if at_once {
-        exchange.skip_without_link(seconds);
+        exchange.skip_without_link(seconds, Rules::Three);
     } else {
         for _second in 0..seconds {
-            exchange.second_without_link();
+            exchange.second_without_link(Rules::Three);
         }
     }
 }
@@ -922,12 +965,12 @@ fn offered_calls(rt: HostRuntime) {
 /// What is told of a booking of the last second after an outage of 80,000 seconds, and of one longer than the day.
 fn told_after_hours(alloc: Global) -> Option<[(u32, Outcome); 3]> {
     let mut exchange = exchange_of(alloc, &[(80_000, 80_001, 1, false)])?;
-    exchange.skip_without_link(80_000);
+    exchange.skip_without_link(80_000, Rules::Three);
     let first = (exchange.moment(), exchange.outcome(1)?);
-    exchange.skip_without_link(1);
+    exchange.skip_without_link(1, Rules::Three);
     let second = (exchange.moment(), exchange.outcome(1)?);
-    exchange.skip_without_link(u32::MAX);
-    exchange.second_without_link();
+    exchange.skip_without_link(u32::MAX, Rules::Three);
+    exchange.second_without_link(Rules::Three);
     Some([first, second, (exchange.moment(), exchange.outcome(1)?)])
 }
 

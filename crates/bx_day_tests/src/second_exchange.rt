@@ -172,8 +172,8 @@ impl Booked {
             self.goes_to(live.reference, 12, if linked { 30 } else { 1 }, now);
         } else if linked && live.state == 3 {
             self.goes_to(live.reference, 10, 0, now);
-        } else if !linked && live.state == 6 {
-            self.is_offered(live, Offer::Unlinked, 1);
+        } else if !linked && matches!(live.state, 6 | 7 | 9) {
+            self.is_offered(Live { state: 6, ..live }, Offer::Unlinked, 1);
         } else if !linked && (clears || live.state == 10) {
             self.course = Course::Live(Live {
                 left: 1,

@@ -1,6 +1,7 @@
 //! Two running ends, and all that each ever sent.
 
 use bx_day::Exchange;
+use bx_events::Rules;
 use bx_far::Far;
 use bx_q931::Octets;
 use bx_worked_days::{DayEnd, Row, exchange_of_numbers, far_of};
@@ -54,7 +55,7 @@ impl Ends {
         match event {
             Event::TickExchange => tick(&mut self.exchange, &mut self.sent),
             Event::WithoutLink => {
-                self.exchange.second_without_link();
+                self.exchange.second_without_link(Rules::Three);
                 Ok(())
             }
             Event::TickFar => tick(&mut self.far, &mut self.far_sent),

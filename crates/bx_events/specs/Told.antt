@@ -11,6 +11,6 @@ event_of (rust.Receive octets) = Receive octets.now
 
 abbrev pub live_event_of : rust_live_event.LiveEvent → LiveEvent
 live_event_of (rust_live.OnLink event) = OnLink (event_of event)
-live_event_of rust_live.WithoutLink = WithoutLink
+live_event_of (rust_live.WithoutLink rules) = WithoutLink rules
 live_event_of (rust_live.Sold booking) = Sold booking.now
 live_event_of (rust_live.HeardByRulesTwo octets) = HeardByRulesTwo octets.now

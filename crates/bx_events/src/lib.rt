@@ -3,6 +3,8 @@
 
 mod event;
 mod moment;
+mod rules;
 
 pub use event::{Event, LiveEvent};
 pub use moment::LAST_MOMENT;
+pub use rules::Rules;

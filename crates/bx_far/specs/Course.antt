@@ -39,7 +39,7 @@ far_line_text d (Receive octets) = frames_of (spelled (reply_list (far_receive_l
 -- the day over seconds without a link too; of what is sold, and of what came to an exchange of the rules 2, it knows nothing
 abbrev pub far_live_next : FarDay → LiveEvent → FarDay
 far_live_next d (OnLink event) = far_line_next d event
-far_live_next d WithoutLink = far_without_link d
+far_live_next d (WithoutLink rules) = far_without_link d
 far_live_next d (Sold line) = d
 far_live_next d (HeardByRulesTwo octets) = d
 

@@ -1,4 +1,5 @@
 -- Whatever is written belongs to the last event.
+use Rattle.bx_events.specs.declared.rules.Rules.TheVariants.{Three}
 use Rattle.std.proofs.Common.{◌≡◌, ℕ, ◌+◌, List, [], ◌∷◌, ◌++◌, refl, sym, ap, ◌∙◌, subst, true, false, Bool, Result, Ok, Err, ◌==◌, if◌then◌else◌}
 use Rattle.std.proofs.lemmas.List.{append-nil, append_assoc}
 use Rattle.bx_events.specs.Events.{Event, Tick, Receive, OnLink, WithoutLink}
@@ -22,8 +23,8 @@ use Rattle.bx_link.proofs.Days.{far_after, more_taken, step_day}
 events_on : (xs ys : List Act) → far_events (xs ++ ys) ≡ far_events xs ++ far_events ys
 events_on [] ys = refl
 events_on (Began second begins.Joined ∷ xs) ys = ap (λ es. OnLink Tick ∷ es) (events_on xs ys)
-events_on (Began second begins.Alone ∷ xs) ys = ap (λ es. WithoutLink ∷ es) (events_on xs ys)
-events_on (Began second begins.Late ∷ xs) ys = ap (λ es. WithoutLink ∷ es) (events_on xs ys)
+events_on (Began second begins.Alone ∷ xs) ys = ap (λ es. WithoutLink Three ∷ es) (events_on xs ys)
+events_on (Began second begins.Late ∷ xs) ys = ap (λ es. WithoutLink Three ∷ es) (events_on xs ys)
 events_on (Read room (Ok (frames.Message octets)) ∷ xs) ys = ap (λ es. OnLink (Receive octets.items) ∷ es) (events_on xs ys)
 events_on (act ∷ xs) ys = events_on xs ys
 

@@ -1,4 +1,5 @@
 -- The events of a far end's day, as the acts of its run tell them.
+use Rattle.bx_events.specs.declared.rules.Rules.TheVariants.{Three}
 use Rattle.std.specs.Prelude.{List, [], ◌∷◌, ◌++◌, ℕ, Ok}
 use Rattle.bx_events.specs.Events.{Event, Tick, Receive, LiveEvent, OnLink, WithoutLink, Sold, HeardByRulesTwo}
 use Rattle.bx_frames.specs.declared.frame.Frame.TheVariants as frames
@@ -9,8 +10,8 @@ use Rattle.bx_live.specs.Acts.{Act, Began, Read}
 abbrev pub far_events : List Act → List LiveEvent
 far_events [] = []
 far_events (Began second begins.Joined ∷ acts) = OnLink Tick ∷ far_events acts
-far_events (Began second begins.Alone ∷ acts) = WithoutLink ∷ far_events acts
-far_events (Began second begins.Late ∷ acts) = WithoutLink ∷ far_events acts
+far_events (Began second begins.Alone ∷ acts) = WithoutLink Three ∷ far_events acts
+far_events (Began second begins.Late ∷ acts) = WithoutLink Three ∷ far_events acts
 far_events (Read room (Ok (frames.Message octets)) ∷ acts) = OnLink (Receive octets.items) ∷ far_events acts
 far_events (act ∷ acts) = far_events acts
 
@@ -19,6 +20,6 @@ far_events (act ∷ acts) = far_events acts
 abbrev pub told_on_link : {D : Type 0} → (D → LiveEvent → D) → (D → Event → List ℕ) → List LiveEvent → D → List ℕ
 told_on_link next text [] d = []
 told_on_link next text (OnLink event ∷ events) d = text d event ++ told_on_link next text events (next d (OnLink event))
-told_on_link next text (WithoutLink ∷ events) d = told_on_link next text events (next d WithoutLink)
+told_on_link next text (WithoutLink rules ∷ events) d = told_on_link next text events (next d (WithoutLink rules))
 told_on_link next text (Sold line ∷ events) d = told_on_link next text events (next d (Sold line))
 told_on_link next text (HeardByRulesTwo octets ∷ events) d = told_on_link next text events (next d (HeardByRulesTwo octets))

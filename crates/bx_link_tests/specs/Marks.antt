@@ -1,4 +1,5 @@
 -- What the journal in memory has.
+use Rattle.bx_events.specs.declared.rules.Rules.TheVariants.{Three}
 use Rattle.std.specs.Prelude.{◌≡◌, List, [], ◌++◌, map}
 use Rattle.std.proofs.Common.{sym, ap, ◌∙◌}
 use Rattle.std.proofs.lemmas.List.{append-nil, append_assoc}
@@ -11,7 +12,7 @@ use Rattle.bx_link_tests.specs.declared.journal.Mark.TheVariants as marks
 abbrev pub event_in : Mark → LiveEvent
 event_in marks.Tick = OnLink Tick
 event_in (marks.Heard octets) = OnLink (Receive octets.items)
-event_in marks.Down = WithoutLink
+event_in marks.Down = WithoutLink Three
 event_in (marks.Bought line) = Sold line.items
 
 abbrev pub events_kept : List Mark → List LiveEvent

@@ -6,7 +6,7 @@ ghost use Rattle.bx_live.specs.Acts.{Logged, logged_by};
 ghost use Rattle.bx_link_tests.specs.Marks.{event_in, events_kept};
 
 use arrayvec::ArrayVec;
-use bx_events::{Event, LiveEvent};
+use bx_events::{Event, LiveEvent, Rules};
 use bx_live::CannotLog;
 use bx_q931::Octets;
 use std::alloc::Global;
@@ -27,18 +27,18 @@ pub struct Journal {
     pub room: u32,
 }
 
-/// The mark of an event. None has more octets than a message, and none came by the rules 2.
+/// The mark of an event. None has more octets than a message, and none is one by the rules 2.
 fn mark_of(event: LiveEvent<'_>) -> Option<Mark>
     ensures { IfSome result (λ mark. event_in mark ≡ live_event_of event.entry) }
 {
     match event {
         LiveEvent::OnLink(Event::Tick) => Some(Mark::Tick),
-        LiveEvent::WithoutLink => Some(Mark::Down),
+        LiveEvent::WithoutLink(Rules::Three) => Some(Mark::Down),
         LiveEvent::Sold(line) => match ArrayVec::try_from(line) {
             Ok(line) => Some(Mark::Bought(line)),
             Err(_) => None,
         },
-        LiveEvent::HeardByRulesTwo(_) => None,
+        LiveEvent::HeardByRulesTwo(_) | LiveEvent::WithoutLink(Rules::Two) => None,
         LiveEvent::OnLink(Event::Receive(octets)) => match ArrayVec::try_from(octets) {
             Ok(octets) => Some(Mark::Heard(octets)),
             Err(_) => None,

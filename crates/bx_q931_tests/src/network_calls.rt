@@ -119,6 +119,8 @@ const RELEASE_101: &[u8] = &[0x08, 0x02, 0x00, 0x01, 0x4D, 0x08, 0x02, 0x82, 0xE
 
 const ANSWERED_RELEASE_101: &[u8] = &[0x08, 0x02, 0x80, 0x01, 0x4D, 0x08, 0x02, 0x82, 0xE5];
 
+const STATUS_ENQUIRY: &[u8] = &[0x08, 0x02, 0x00, 0x01, 0x75];
+
 /// STATUS with cause 30 of a user that reports Call Present, Call Received and Incoming Call Proceeding.
 const REPORTS_U6: &[u8] = &[
     0x08, 0x02, 0x80, 0x01, 0x7D, 0x08, 0x02, 0x80, 0x9E, 0x14, 0x01, 0x06,
@@ -246,13 +248,82 @@ fn goes_by_report(asked: NetCall, row: &Reported) -> bool {
 
 /// The call that is offered, asked for at 111 after a second without a link.
 fn asked_for(offered: NetCall) -> Option<NetCall> {
-    let Next::Live(unlinked) = offered.on_seconds_unlinked(1, 110, 200).next else {
+    let Next::Live(unlinked) = offered.on_seconds_unlinked(1, Rules::Three, 110, 200).next else {
         return None;
     };
     match unlinked.on_second(111, 200).next {
         Next::Live(asked) => Some(asked),
         _ => None,
     }
+}
+
+/// What a call hears at 100 that is offered then, the rules by which a second without a link goes by at 105, what is left of it, with the
+/// moment at which its timer is due, and what is sent at 106.
+type Rings = (
+    &'static str,
+    &'static [u8],
+    Rules,
+    CallState,
+    u32,
+    &'static [u8],
+);
+
+static RINGS: [Rings; 4] = [
+    (
+        "proceeding",
+        PROCEEDING_CHANNEL_1,
+        Rules::Three,
+        CallState::CallPresent,
+        106,
+        STATUS_ENQUIRY,
+    ),
+    (
+        "alerted",
+        ALERTING_CHANNEL_1,
+        Rules::Three,
+        CallState::CallPresent,
+        106,
+        STATUS_ENQUIRY,
+    ),
+    (
+        "proceeding by the rules 2",
+        PROCEEDING_CHANNEL_1,
+        Rules::Two,
+        CallState::IncomingCallProceeding,
+        111,
+        &[],
+    ),
+    (
+        "alerted by the rules 2",
+        ALERTING_CHANNEL_1,
+        Rules::Two,
+        CallState::CallReceived,
+        281,
+        &[],
+    ),
+];
+
+/// Whether a call that is offered goes by this row.
+fn rings_so(offered: NetCall, row: &Rings) -> bool {
+    let Some(rung) = following(offered, row.1) else {
+        return false;
+    };
+    let Next::Live(unlinked) = rung.on_seconds_unlinked(1, row.2, 105, 200).next else {
+        return false;
+    };
+    let is_left = unlinked.state() == row.3 && unlinked.due() == Some(row.4);
+    is_left && says(unlinked.on_second(106, 200).reply, row.5)
+}
+
+#[test]
+fn calls_that_ring(rt: HostRuntime) -> Result<(), Fail> {
+    let channel = Channel::new(1).ok_or("a channel")?;
+    let number = Number::new(b"1234").ok_or("a number")?;
+    let (offered, _) = NetCall::offered(1, channel, number, false, 100);
+    for row in &RINGS {
+        assert!(rt; rings_so(offered, row), "{}", row.0);
+    }
+    Ok(())
 }
 
 #[test]

@@ -77,7 +77,7 @@ pub(crate) fn after_report(
     rules: Rules,
     sent: &[u8],
 ) -> Option<After> {
-    let Next::Live(asked) = call.on_seconds_unlinked(1, 110, 200).next else {
+    let Next::Live(asked) = call.on_seconds_unlinked(1, rules, 110, 200).next else {
         return None;
     };
     let Transition { next, reply } = asked.on_message(&read(octets).ok()?, rules, 111);

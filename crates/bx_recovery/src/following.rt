@@ -25,7 +25,7 @@ impl Follower for Following {
             LoggedEvent::Heard(octets) => {
                 let _reply = self.exchange.receive(octets);
             }
-            LoggedEvent::Down => self.exchange.second_without_link(),
+            LoggedEvent::Down(rules) => self.exchange.second_without_link(*rules),
             // The plan that the exchange was opened with has it.
             LoggedEvent::Sold(_) => {}
             LoggedEvent::HeardByRulesTwo(octets) => {

@@ -1,4 +1,5 @@
 -- A day whose far end answers by its messages is one whose far end answers each turn.
+use Rattle.bx_events.specs.declared.rules.Rules.TheVariants.{Three}
 use Rattle.std.proofs.Common.{◌≡◌, ℕ, zero, suc, ◌+◌, ◌≤◌, ◌<◌, Bool, true, false, List, [], ◌∷◌, length, Option, Some, None, arith, refl, sym, subst, ◌∙◌, nat_le, if◌then◌else◌}
 use Rattle.std.proofs.lemmas.Bool.{true≢false}
 use Rattle.bx_base.specs.Bookings.{Row, AreBookings, Carries}
@@ -89,8 +90,8 @@ linked_between rows assigned d received early h ok =
     let last = all_heard rows assigned (d.moment + 1) received (passed_in Up d).day (hearing_at rows assigned d early h) in
     record { calm = calm_linked rows assigned d received early h.calm ok; exchange = last.exchange; once = last.once }
 
-pub unlinked_between : (rows : List Row) (assigned : List (Option ℕ)) (d : Day) → d.moment < 300000 → IsBetween rows assigned d → IsBetween rows assigned (passed_in Down d).day
-unlinked_between rows assigned d early h = record { calm = calm_unlinked rows assigned d early h.calm; exchange = passed_stays Down d early h.exchange; once = once_second Down d h.once }
+pub unlinked_between : (rows : List Row) (assigned : List (Option ℕ)) (d : Day) → d.moment < 300000 → IsBetween rows assigned d → IsBetween rows assigned (passed_in (Down Three) d).day
+unlinked_between rows assigned d early h = record { calm = calm_unlinked rows assigned d early h.calm; exchange = passed_stays (Down Three) d early h.exchange; once = once_second (Down Three) d h.once }
 
 -- what each turn does, where what is heard in it does so
 each_run : (rows : List Row) (assigned : List (Option ℕ)) (P : Day → List (List ℕ) → Type 0) (Q : Day → Day → Type 0)
@@ -107,8 +108,8 @@ each_run rows assigned P Q f g (Linked received ∷ ss) d h ok few =
     (linked_turn Q d received early turn, subst (EachTurn Q ss) (sym is) (each_run rows assigned P Q f g ss left (linked_between rows assigned d received early h (g (passed_in Up d).day left turn)) (subst (EachHeard P ss) is ok.1) (omega (arith, few, at))))
 each_run rows assigned P Q f g (Unlinked ∷ ss) d h ok few =
     let early : d.moment < 300000 = omega (arith, few) in
-    let is : without_link d ≡ (passed_in Down d).day = without_is d early in
-    subst (EachTurn Q ss) (sym is) (each_run rows assigned P Q f g ss (passed_in Down d).day (unlinked_between rows assigned d early h) (subst (EachHeard P ss) is ok) (omega (arith, few)))
+    let is : without_link d ≡ (passed_in (Down Three) d).day = without_is d early in
+    subst (EachTurn Q ss) (sym is) (each_run rows assigned P Q f g ss (passed_in (Down Three) d).day (unlinked_between rows assigned d early h) (subst (EachHeard P ss) is ok) (omega (arith, few)))
 
 answered_turn : (rows : List Row) (assigned : List (Option ℕ)) (d : Day) (received : List (List ℕ)) → d.moment < 300000 → IsBetween rows assigned d → Answers (passed_in Up d).day received → IsAllAnswered (passed_in Up d).day (heard_in received (passed_in Up d).day)
 answered_turn rows assigned d received early h ok = turn_answered rows assigned (d.moment + 1) received (passed_in Up d).day (hearing_at rows assigned d early h) ok (λ j. let e = entry_at d.entries j in subst IsOther (sym (after_standing Up d j)) (other_tick (d.moment + 1) e (is_back d) (is_free d e.channel) e.standing))

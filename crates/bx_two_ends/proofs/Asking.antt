@@ -1,5 +1,5 @@
 -- A call that is asked for in vain is not Active for long, and without an outage none is touched.
-use Rattle.bx_calls.specs.declared.rules.Rules.TheVariants.{Three}
+use Rattle.bx_events.specs.declared.rules.Rules.TheVariants.{Three}
 use Rattle.std.proofs.Common.{◌≡◌, ℕ, zero, suc, ◌+◌, ◌≤◌, ◌<◌, Bool, true, false, List, [], ◌∷◌, map, Option, Some, None, arith, refl, sym, ap, subst, ◌∙◌, not, ◌&&◌, nat_le, Result, Ok, Err, ◌==◌, ◌||◌, if◌then◌else◌}
 use Rattle.std.specs.List.{AllByRecursion, position}
 use Rattle.std.proofs.lemmas.Bool.{leb-false, true≢false, false≢true, eqb-true, false_from_ne_true}
@@ -122,7 +122,7 @@ asked_after (suc n) t end c Twice due waits fit =
     (λ fires. cleared_after n (t + 1) end (net_disconnects (asked_as c Twice due) 41 (t + 1)).next refl)
     (λ later. asked_after n (t + 1) end c Twice due (leb-false due (t + 1) later) (omega (arith, fit))))
 
-lost_at : (c : PlainNetCall) (s : NetState) (t end : ℕ) → is_active s ≡ true → IsDown 9 t end (net_unlinked 1 (record c { state = s }) t end)
+lost_at : (c : PlainNetCall) (s : NetState) (t end : ℕ) → is_active s ≡ true → IsDown 9 t end (net_unlinked Three 1 (record c { state = s }) t end)
 lost_at c Active t end h =
     by_cases (nat_le end t) _ _ (IsDown 9 t end)
     (λ _. cleared_after 9 t end (Live (record c { state = DisconnectIndication 16 (t + 1) })) refl)
@@ -138,7 +138,7 @@ lost_at c (CallReceived due) t end h = absurd (false≢true h)
 lost_at c (DisconnectIndication cause due) t end h = absurd (false≢true h)
 lost_at c (ReleaseRequest again cause due) t end h = absurd (false≢true h)
 
-pub asked_in_vain : (c : PlainNetCall) (t end : ℕ) → is_active c.state ≡ true → is_call_up (call_after 9 t end (net_unlinked 1 c t end).next) ≡ false
+pub asked_in_vain : (c : PlainNetCall) (t end : ℕ) → is_active c.state ≡ true → is_call_up (call_after 9 t end (net_unlinked Three 1 c t end).next) ≡ false
 asked_in_vain c t end h = lost_at c c.state t end h
 
 -- ---- a report of a state that does not fit

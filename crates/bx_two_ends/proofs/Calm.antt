@@ -1,5 +1,6 @@
 -- Where the far end answers each turn, no channel breaks, and an outward booking is carried from its second second with a link
 -- at the latest. A second is taken as a whole: what the far end has answered after its messages is enough.
+use Rattle.bx_events.specs.declared.rules.Rules.TheVariants.{Three}
 use Rattle.std.proofs.Common.{◌≡◌, ◌≢◌, ℕ, suc, ◌+◌, ◌≤◌, ◌<◌, ◌==◌, ◌&&◌, ◌||◌, not, Bool, true, false, List, [], ◌∷◌, length, take, Option, arith, refl, sym, subst, ap, ◌∙◌, nat_le, inl, inr, ◌⊎◌, if◌then◌else◌, zero}
 use Rattle.std.specs.List.{list_any}
 use Rattle.std.proofs.lemmas.Bool.{false≢true, true≢false, and_from, leb-true, eqb-true, eq-eqb, false_from_ne_true, cases_eq, cases_lt}
@@ -95,15 +96,15 @@ calm_linked rows assigned d received early h ok =
     record { fits = last.fits; size = last.size; clean = last.clean; quiet = λ j. cleared_quiet (standing_at left j) (cleared_at left j (ok.cleared j)) (ok.awake j) }
 
 -- a second without a link
-pub without_is : (d : Day) → d.moment < 300000 → without_link d ≡ (passed_in Down d).day
-without_is d early = ap (λ b. if b then d else (passed_in Down d).day) (false_from_ne_true (nat_le 300000 d.moment) (λ late. let le : 300000 ≤ d.moment = leb-true 300000 d.moment late in absurd (omega (arith, le, early))))
+pub without_is : (d : Day) → d.moment < 300000 → without_link d ≡ (passed_in (Down Three) d).day
+without_is d early = ap (λ b. if b then d else (passed_in (Down Three) d).day) (false_from_ne_true (nat_le 300000 d.moment) (λ late. let le : 300000 ≤ d.moment = leb-true 300000 d.moment late in absurd (omega (arith, le, early))))
 
-pub calm_unlinked : (rows : List Row) (assigned : List (Option ℕ)) (d : Day) → d.moment < 300000 → IsCalm rows assigned d → IsCalm rows assigned (passed_in Down d).day
+pub calm_unlinked : (rows : List Row) (assigned : List (Option ℕ)) (d : Day) → d.moment < 300000 → IsCalm rows assigned d → IsCalm rows assigned (passed_in (Down Three) d).day
 calm_unlinked rows assigned d early h = record {
-  fits = subst (RunFits rows assigned) (without_is d early) (without_run rows assigned d h.fits);
-  size = map_size Down d d.entries ∙ h.size;
-  clean = marks_kept Down d (λ j. let e = entry_at d.entries j in whole_unlinked (d.moment + 1) e e.standing) h.clean;
-  quiet = λ j. (let e = entry_at d.entries j in subst IsQuietCall (sym (after_standing Down d j)) (quiet_unlinked (d.moment + 1) e e.standing (h.quiet j)));
+  fits = subst (RunFits rows assigned) (without_is d early) (without_run Three rows assigned d h.fits);
+  size = map_size (Down Three) d d.entries ∙ h.size;
+  clean = marks_kept (Down Three) d (λ j. let e = entry_at d.entries j in whole_unlinked (d.moment + 1) e e.standing) h.clean;
+  quiet = λ j. (let e = entry_at d.entries j in subst IsQuietCall (sym (after_standing (Down Three) d j)) (quiet_unlinked (d.moment + 1) e e.standing (h.quiet j)));
 }
 
 -- ---- one outward booking, which runs at moment offered, and whose channel no other has from moment cleared to that
@@ -300,44 +301,44 @@ link_stands rows assigned i cleared offered ended d received early b s ok =
 
 -- ---- a second without a link
 
-down_live : (d : Day) (e : Entry) → is_live (second_in Down d e).standing ≡ true → is_live e.standing ≡ true
-down_live d e = unlinked e (d.moment + 1) e.standing (λ m. is_live m.standing ≡ true → is_live e.standing ≡ true) (λ c a p _. ap is_live p) (λ live. was (second_live (d.moment + 1) false false e e.standing live))
+down_live : (d : Day) (e : Entry) → is_live (second_in (Down Three) d e).standing ≡ true → is_live e.standing ≡ true
+down_live d e = unlinked Three e (d.moment + 1) e.standing (λ m. is_live m.standing ≡ true → is_live e.standing ≡ true) (λ c a p _. ap is_live p) (λ live. was (second_live (d.moment + 1) false false e e.standing live))
   where
     was : WasLive (d.moment + 1) false e → is_live e.standing ≡ true
     was (Before live) = live
     was (Offered accepted runs free) = absurd (false≢true free)
 
 -- a channel that is held after it was held before
-pub down_held : (d : Day) (c : ℕ) → is_held (passed_in Down d).day.entries c ≡ true → is_held d.entries c ≡ true
+pub down_held : (d : Day) (c : ℕ) → is_held (passed_in (Down Three) d).day.entries c ≡ true → is_held d.entries c ≡ true
 down_held d c held =
-    let p = held_by (passed_in Down d).day.entries c held in
-    let q = holds_parts c (entry_at (passed_in Down d).day.entries p.0) p.2 in
+    let p = held_by (passed_in (Down Three) d).day.entries c held in
+    let q = holds_parts c (entry_at (passed_in (Down Three) d).day.entries p.0) p.2 in
     let e = entry_at d.entries p.0 in
-    held_at d.entries c p.0 (holds_from c e (down_live d e (sym (ap is_live (after_standing Down d p.0)) ∙ q.0)) (sym (ap (λ (x : Entry). x.channel) (at_map_in Down d d.entries p.0)) ∙ q.1))
+    held_at d.entries c p.0 (holds_from c e (down_live d e (sym (ap is_live (after_standing (Down Three) d p.0)) ∙ q.0)) (sym (ap (λ (x : Entry). x.channel) (at_map_in (Down Three) d d.entries p.0)) ∙ q.1))
 
 down_stands : (rows : List Row) (assigned : List (Option ℕ)) (i cleared offered ended : ℕ) (d : Day) → d.moment < 300000 → IsBooked rows assigned i cleared offered ended → Stands rows assigned i cleared offered ended d
-    → (cleared ≢ d.moment + 1) → (offered ≢ d.moment + 1) → (ended ≢ d.moment + 1) → Stands rows assigned i cleared offered ended (passed_in Down d).day
+    → (cleared ≢ d.moment + 1) → (offered ≢ d.moment + 1) → (ended ≢ d.moment + 1) → Stands rows assigned i cleared offered ended (passed_in (Down Three) d).day
 down_stands rows assigned i cleared offered ended d early b s nc nf ne =
     let e = entry_at d.entries i in
     let n = d.moment + 1 in
     let book : e.booking ≡ row_at rows i = (s.calm.fits.framed.0 i b.inside).booking in
-    let here = after_standing Down d i in
-    let rises : n < (row_at rows i).end → IsUp offered e.standing → IsUp offered (standing_at (passed_in Down d).day i) =
+    let here = after_standing (Down Three) d i in
+    let rises : n < (row_at rows i).end → IsUp offered e.standing → IsUp offered (standing_at (passed_in (Down Three) d).day i) =
     λ less up. subst (IsUp offered) (sym here) (up_unlinked offered n e e.standing up (subst (λ (r : Row). n < r.end) (sym book) less)) in
     record {
       calm = calm_unlinked rows assigned d early s.calm;
       early = λ less. elim (s.early (omega (arith, less))) [
-        | inl waits ↦ inl (here ∙ ap (λ x. (unlinked_at e n x).standing) waits ∙ waits_stays n e false false (offers_none e n) (subst (λ (r : Row). n < r.end) (sym book) (omega (arith, less, b.late))))
+        | inl waits ↦ inl (here ∙ ap (λ x. (unlinked_at Three e n x).standing) waits ∙ waits_stays n e false false (offers_none e n) (subst (λ (r : Row). n < r.end) (sym book) (omega (arith, less, b.late))))
         | inr up ↦ inr (rises (omega (arith, less, b.late)) up)
       ];
       free = λ low less held. rises (omega (arith, less, b.late)) (s.free (below cleared d.moment low nc) (omega (arith, less)) (down_held d (channel_at assigned i) held));
       up = λ low less. rises less (s.up (below offered d.moment low nf) (omega (arith, less)));
       over = λ late. elim (cases_lt d.moment (row_at rows i).end) [
         | inl less ↦ (let is : n ≡ (row_at rows i).end = omega (arith, less, late) in
-            subst (IsOver offered (row_at rows i).end) (sym here) (subst (λ (r : Row). IsOver offered r.end (unlinked_at e n e.standing).standing) book (end_unlinked offered n e e.standing (s.up (omega (arith, is, b.late)) less) (is ∙ ap (λ (r : Row). r.end) (sym book)))))
-        | inr past ↦ subst (IsOver offered (row_at rows i).end) (sym here) (subst (λ (r : Row). IsOver offered r.end (unlinked_at e n e.standing).standing) book (over_unlinked offered n e e.standing (subst (λ (r : Row). IsOver offered r.end e.standing) (sym book) (s.over past))))
+            subst (IsOver offered (row_at rows i).end) (sym here) (subst (λ (r : Row). IsOver offered r.end (unlinked_at Three e n e.standing).standing) book (end_unlinked offered n e e.standing (s.up (omega (arith, is, b.late)) less) (is ∙ ap (λ (r : Row). r.end) (sym book)))))
+        | inr past ↦ subst (IsOver offered (row_at rows i).end) (sym here) (subst (λ (r : Row). IsOver offered r.end (unlinked_at Three e n e.standing).standing) book (over_unlinked offered n e e.standing (subst (λ (r : Row). IsOver offered r.end e.standing) (sym book) (s.over past))))
       ];
-      done = λ late. subst (IsCarriedBy offered (row_at rows i).end) (sym here) (subst (λ (r : Row). IsCarriedBy offered r.end (unlinked_at e n e.standing).standing) book (carried_unlinked offered n e e.standing (subst (λ (r : Row). IsCarriedBy offered r.end e.standing) (sym book) (s.done (below ended d.moment late ne)))));
+      done = λ late. subst (IsCarriedBy offered (row_at rows i).end) (sym here) (subst (λ (r : Row). IsCarriedBy offered r.end (unlinked_at Three e n e.standing).standing) book (carried_unlinked offered n e e.standing (subst (λ (r : Row). IsCarriedBy offered r.end e.standing) (sym book) (s.done (below ended d.moment late ne)))));
     }
   where
     below : (t m : ℕ) → t ≤ m + 1 → t ≢ m + 1 → t ≤ m
@@ -387,10 +388,10 @@ booked_run rows assigned i cleared offered ended (Linked received ∷ ss) d b s 
     (subst (λ m. IsDueIn ss m ended) (sym at) (due_after (Linked received) ss d.moment ended de)))
 booked_run rows assigned i cleared offered ended (Unlinked ∷ ss) d b s ok few dc do_ de =
     let early : d.moment < 300000 = omega (arith, few) in
-    let is : without_link d ≡ (passed_in Down d).day = without_is d early in
+    let is : without_link d ≡ (passed_in (Down Three) d).day = without_is d early in
     let next = down_stands rows assigned i cleared offered ended d early b s (not_due ss d.moment cleared dc) (not_due ss d.moment offered do_) (not_due ss d.moment ended de) in
     subst (λ x. IsCarriedBy offered (row_at rows i).end (standing_at (seconds_after ss x) i)) (sym is)
-    (booked_run rows assigned i cleared offered ended ss (passed_in Down d).day b next (subst (AreAnswered ss) is ok) (omega (arith, few))
+    (booked_run rows assigned i cleared offered ended ss (passed_in (Down Three) d).day b next (subst (AreAnswered ss) is ok) (omega (arith, few))
     (due_after Unlinked ss d.moment cleared dc) (due_after Unlinked ss d.moment offered do_) (due_after Unlinked ss d.moment ended de))
 
 -- no channel is ever in maintenance
@@ -404,8 +405,8 @@ calm_run rows assigned (Linked received ∷ ss) d h ok few =
     subst (λ x. IsCalm rows assigned (seconds_after ss x)) (sym is) (calm_run rows assigned ss left (calm_linked rows assigned d received early h (turn_linked IsCleared d received early ok.0)) (subst (AreCleared ss) is ok.1) (omega (arith, few, at)))
 calm_run rows assigned (Unlinked ∷ ss) d h ok few =
     let early : d.moment < 300000 = omega (arith, few) in
-    let is : without_link d ≡ (passed_in Down d).day = without_is d early in
-    subst (λ x. IsCalm rows assigned (seconds_after ss x)) (sym is) (calm_run rows assigned ss (passed_in Down d).day (calm_unlinked rows assigned d early h) (subst (AreCleared ss) is ok) (omega (arith, few)))
+    let is : without_link d ≡ (passed_in (Down Three) d).day = without_is d early in
+    subst (λ x. IsCalm rows assigned (seconds_after ss x)) (sym is) (calm_run rows assigned ss (passed_in (Down Three) d).day (calm_unlinked rows assigned d early h) (subst (AreCleared ss) is ok) (omega (arith, few)))
 
 -- ---- a booking whose call is live, and is settled or Active
 
@@ -457,13 +458,13 @@ link_inward rows assigned i connected ended d received early b s ok =
       done = λ late. ends (omega (arith, late, at, b.over));
     }
 
-down_inward : (rows : List Row) (assigned : List (Option ℕ)) (i connected ended : ℕ) (d : Day) → d.moment < 300000 → IsInward rows i connected ended → Connects rows assigned i connected ended d → (connected ≢ d.moment + 1) → (ended ≢ d.moment + 1) → Connects rows assigned i connected ended (passed_in Down d).day
+down_inward : (rows : List Row) (assigned : List (Option ℕ)) (i connected ended : ℕ) (d : Day) → d.moment < 300000 → IsInward rows i connected ended → Connects rows assigned i connected ended d → (connected ≢ d.moment + 1) → (ended ≢ d.moment + 1) → Connects rows assigned i connected ended (passed_in (Down Three) d).day
 down_inward rows assigned i connected ended d early b s nc ne =
     let e = entry_at d.entries i in
     let n = d.moment + 1 in
     let book : e.booking ≡ row_at rows i = (s.calm.fits.framed.0 i b.inside).booking in
-    let here = after_standing Down d i in
-    let rises : n < (row_at rows i).end → IsUp connected e.standing → IsUp connected (standing_at (passed_in Down d).day i) =
+    let here = after_standing (Down Three) d i in
+    let rises : n < (row_at rows i).end → IsUp connected e.standing → IsUp connected (standing_at (passed_in (Down Three) d).day i) =
     λ less up. subst (IsUp connected) (sym here) (up_unlinked connected n e e.standing up (subst (λ (r : Row). n < r.end) (sym book) less)) in
     record {
       calm = calm_unlinked rows assigned d early s.calm;
@@ -474,10 +475,10 @@ down_inward rows assigned i connected ended d early b s nc ne =
       up = λ low less. rises less (s.up (below connected d.moment low nc) (omega (arith, less)));
       over = λ late. elim (cases_lt d.moment (row_at rows i).end) [
         | inl less ↦ (let is : n ≡ (row_at rows i).end = omega (arith, less, late) in
-            subst (IsOver connected (row_at rows i).end) (sym here) (subst (λ (r : Row). IsOver connected r.end (unlinked_at e n e.standing).standing) book (end_unlinked connected n e e.standing (s.up (omega (arith, is, b.runs)) less) (is ∙ ap (λ (r : Row). r.end) (sym book)))))
-        | inr past ↦ subst (IsOver connected (row_at rows i).end) (sym here) (subst (λ (r : Row). IsOver connected r.end (unlinked_at e n e.standing).standing) book (over_unlinked connected n e e.standing (subst (λ (r : Row). IsOver connected r.end e.standing) (sym book) (s.over past))))
+            subst (IsOver connected (row_at rows i).end) (sym here) (subst (λ (r : Row). IsOver connected r.end (unlinked_at Three e n e.standing).standing) book (end_unlinked connected n e e.standing (s.up (omega (arith, is, b.runs)) less) (is ∙ ap (λ (r : Row). r.end) (sym book)))))
+        | inr past ↦ subst (IsOver connected (row_at rows i).end) (sym here) (subst (λ (r : Row). IsOver connected r.end (unlinked_at Three e n e.standing).standing) book (over_unlinked connected n e e.standing (subst (λ (r : Row). IsOver connected r.end e.standing) (sym book) (s.over past))))
       ];
-      done = λ late. subst (IsCarriedBy connected (row_at rows i).end) (sym here) (subst (λ (r : Row). IsCarriedBy connected r.end (unlinked_at e n e.standing).standing) book (carried_unlinked connected n e e.standing (subst (λ (r : Row). IsCarriedBy connected r.end e.standing) (sym book) (s.done (below ended d.moment late ne)))));
+      done = λ late. subst (IsCarriedBy connected (row_at rows i).end) (sym here) (subst (λ (r : Row). IsCarriedBy connected r.end (unlinked_at Three e n e.standing).standing) book (carried_unlinked connected n e e.standing (subst (λ (r : Row). IsCarriedBy connected r.end e.standing) (sym book) (s.done (below ended d.moment late ne)))));
     }
   where
     below : (t m : ℕ) → t ≤ m + 1 → t ≢ m + 1 → t ≤ m
@@ -498,10 +499,10 @@ inward_run rows assigned i connected ended (Linked received ∷ ss) d b s ok few
     (subst (λ m. IsDueIn ss m ended) (sym at) (due_after (Linked received) ss d.moment ended de)))
 inward_run rows assigned i connected ended (Unlinked ∷ ss) d b s ok few dc de =
     let early : d.moment < 300000 = omega (arith, few) in
-    let is : without_link d ≡ (passed_in Down d).day = without_is d early in
+    let is : without_link d ≡ (passed_in (Down Three) d).day = without_is d early in
     let next = down_inward rows assigned i connected ended d early b s (not_due ss d.moment connected dc) (not_due ss d.moment ended de) in
     subst (λ x. IsCarriedBy connected (row_at rows i).end (standing_at (seconds_after ss x) i)) (sym is)
-    (inward_run rows assigned i connected ended ss (passed_in Down d).day b next (subst (AreCleared ss) is ok) (omega (arith, few)) (due_after Unlinked ss d.moment connected dc) (due_after Unlinked ss d.moment ended de))
+    (inward_run rows assigned i connected ended ss (passed_in (Down Three) d).day b next (subst (AreCleared ss) is ok) (omega (arith, few)) (due_after Unlinked ss d.moment connected dc) (due_after Unlinked ss d.moment ended de))
 
 -- from the day on at which its call is settled, or Active
 abbrev pub IsOn : ℕ → ℕ → Day → Type 0
@@ -560,8 +561,8 @@ called_run rows assigned i connected ended (suc n) (Linked received ∷ ss) d b 
     (subst (λ m. IsDueIn ss m ended) (sym at) (due_after (Linked received) ss d.moment ended de)))
 called_run rows assigned i connected ended (suc n) (Unlinked ∷ ss) d b calm ok few on size dc de =
     let early : d.moment < 300000 = omega (arith, few) in
-    let is : without_link d ≡ (passed_in Down d).day = without_is d early in
+    let is : without_link d ≡ (passed_in (Down Three) d).day = without_is d early in
     subst (λ x. IsCarriedBy connected (row_at rows i).end (standing_at (seconds_after ss x) i)) (sym is)
-    (called_run rows assigned i connected ended n ss (passed_in Down d).day b (calm_unlinked rows assigned d early calm) (subst (AreCleared ss) is ok) (omega (arith, few))
+    (called_run rows assigned i connected ended n ss (passed_in (Down Three) d).day b (calm_unlinked rows assigned d early calm) (subst (AreCleared ss) is ok) (omega (arith, few))
     (subst (λ x. IsCalm rows assigned (seconds_after (take n ss) x) → x.moment + n ≡ (seconds_after (take n ss) x).moment → IsOn connected i (seconds_after (take n ss) x)) is (λ c m. on c (omega (arith, m, ap (λ (x : Day). x.moment) is)))) (omega (arith, size))
     (due_next Unlinked ss d.moment n connected dc) (due_after Unlinked ss d.moment ended de))

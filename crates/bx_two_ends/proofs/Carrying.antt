@@ -1,4 +1,5 @@
 -- A booking's standing while it is carried: what a second and a message make of it.
+use Rattle.bx_events.specs.declared.rules.Rules.TheVariants.{Three}
 use Rattle.std.proofs.Common.{◌≡◌, ℕ, ◌≤◌, ◌<◌, Bool, true, false, Option, ◌&&◌, not, arith, refl, sym, subst, ◌∙◌, nat_le, inl, inr, ◌⊎◌, if◌then◌else◌}
 use Rattle.std.proofs.lemmas.Bool.{leb-true, leb-false, true≢false, false≢true}
 use Rattle.bx_q931.specs.Outgoing.{Outgoing}
@@ -122,30 +123,30 @@ waits_stays t e back free stays lt = by_cases (offers e t free) _ _ (λ (m : Mov
 
 -- ---- a second without a link
 
-up_still : (u t end r ch : ℕ) (o : NetOrigin) (s : NetState) (a : Activity) → TalksBy u s a → t < end → IsUp u (follows a t (net_unlinked 1 (call_of r ch o s) t end)).standing
+up_still : (u t end r ch : ℕ) (o : NetOrigin) (s : NetState) (a : Activity) → TalksBy u s a → t < end → IsUp u (follows a t (net_unlinked Three 1 (call_of r ch o s) t end)).standing
 up_still u t end r ch o Active (Since from) h lt = by_step (nat_le end t) (IsUp u) (Since from) t _ _ (λ ended. let le : end ≤ t = leb-true end t ended in absurd (omega (arith, le, lt))) (λ _. h)
 up_still u t end r ch o (Enquiring asked due) (Since from) h lt = by_step (nat_le end t) (IsUp u) (Since from) t _ _ (λ ended. let le : end ≤ t = leb-true end t ended in absurd (omega (arith, le, lt))) (λ _. h)
 up_still u t end r ch o s a h lt = absurd h
 
-end_still : (u t end r ch : ℕ) (o : NetOrigin) (s : NetState) (a : Activity) → TalksBy u s a → t ≡ end → IsOver u end (follows a t (net_unlinked 1 (call_of r ch o s) t end)).standing
+end_still : (u t end r ch : ℕ) (o : NetOrigin) (s : NetState) (a : Activity) → TalksBy u s a → t ≡ end → IsOver u end (follows a t (net_unlinked Three 1 (call_of r ch o s) t end)).standing
 end_still u t end r ch o Active (Since from) h is = by_step (nat_le end t) (IsOver u end) (Since from) t _ _ (λ _. (h, is)) (λ runs. let lt : t < end = leb-false end t runs in absurd (omega (arith, is, lt)))
 end_still u t end r ch o (Enquiring asked due) (Since from) h is = by_step (nat_le end t) (IsOver u end) (Since from) t _ _ (λ _. (h, is)) (λ runs. let lt : t < end = leb-false end t runs in absurd (omega (arith, is, lt)))
 end_still u t end r ch o s a h is = absurd h
 
-over_still : (u t end r ch : ℕ) (o : NetOrigin) (s : NetState) (a : Activity) → ClearsBy u end s a → IsOver u end (follows a t (net_unlinked 1 (call_of r ch o s) t end)).standing
+over_still : (u t end r ch : ℕ) (o : NetOrigin) (s : NetState) (a : Activity) → ClearsBy u end s a → IsOver u end (follows a t (net_unlinked Three 1 (call_of r ch o s) t end)).standing
 over_still u t end r ch o (DisconnectIndication cause due) (Was from until) h = h
 over_still u t end r ch o (ReleaseRequest again cause due) (Was from until) h = h
 over_still u t end r ch o s a h = absurd h
 
-pub up_unlinked : (u t : ℕ) (e : Entry) (s : Standing) → IsUp u s → t < e.booking.end → IsUp u (unlinked_at e t s).standing
+pub up_unlinked : (u t : ℕ) (e : Entry) (s : Standing) → IsUp u s → t < e.booking.end → IsUp u (unlinked_at Three e t s).standing
 up_unlinked u t e (OnCall c a) h lt = up_still u t e.booking.end c.reference c.channel c.origin c.state a h lt
 up_unlinked u t e s h lt = absurd h
 
-pub end_unlinked : (u t : ℕ) (e : Entry) (s : Standing) → IsUp u s → t ≡ e.booking.end → IsOver u e.booking.end (unlinked_at e t s).standing
+pub end_unlinked : (u t : ℕ) (e : Entry) (s : Standing) → IsUp u s → t ≡ e.booking.end → IsOver u e.booking.end (unlinked_at Three e t s).standing
 end_unlinked u t e (OnCall c a) h is = end_still u t e.booking.end c.reference c.channel c.origin c.state a h is
 end_unlinked u t e s h is = absurd h
 
-pub over_unlinked : (u t : ℕ) (e : Entry) (s : Standing) → IsOver u e.booking.end s → IsOver u e.booking.end (unlinked_at e t s).standing
+pub over_unlinked : (u t : ℕ) (e : Entry) (s : Standing) → IsOver u e.booking.end s → IsOver u e.booking.end (unlinked_at Three e t s).standing
 over_unlinked u t e (OnCall c a) h = over_still u t e.booking.end c.reference c.channel c.origin c.state a h
 over_unlinked u t e (Carried from until) h = h
 over_unlinked u t e s h = absurd h
@@ -309,7 +310,7 @@ pub carried_tick : (u t : ℕ) (e : Entry) (back free : Bool) (s : Standing) →
 carried_tick u t e back free (Carried from until) h = h
 carried_tick u t e back free s h = absurd h
 
-pub carried_unlinked : (u t : ℕ) (e : Entry) (s : Standing) → IsCarriedBy u e.booking.end s → IsCarriedBy u e.booking.end (unlinked_at e t s).standing
+pub carried_unlinked : (u t : ℕ) (e : Entry) (s : Standing) → IsCarriedBy u e.booking.end s → IsCarriedBy u e.booking.end (unlinked_at Three e t s).standing
 carried_unlinked u t e (Carried from until) h = h
 carried_unlinked u t e s h = absurd h
 
@@ -340,12 +341,12 @@ whole_tick t e back free (OnCall c a) h = whole_second t e.booking.end c.referen
 whole_tick t e back free Unoffered h = whole_waits e t back free
 whole_tick t e back free s h = refl
 
-pub whole_unlinked : (t : ℕ) (e : Entry) (s : Standing) → (unlinked_at e t s).broken ≡ false
+pub whole_unlinked : (t : ℕ) (e : Entry) (s : Standing) → (unlinked_at Three e t s).broken ≡ false
 whole_unlinked t e (OnCall c a) = whole_step (not (net_is_clearing c.state) && nat_le e.booking.end t) a t _ _ refl refl
 whole_unlinked t e Unoffered = whole_waits e t false false
 whole_unlinked t e s = refl
 
-quiet_still : (t end r ch : ℕ) (o : NetOrigin) (s : NetState) (a : Activity) → is_pressed s ≡ false → IsQuietCall (follows a t (net_unlinked 1 (call_of r ch o s) t end)).standing
+quiet_still : (t end r ch : ℕ) (o : NetOrigin) (s : NetState) (a : Activity) → is_pressed s ≡ false → IsQuietCall (follows a t (net_unlinked Three 1 (call_of r ch o s) t end)).standing
 quiet_still t end r ch o (DisconnectIndication cause due) a h = refl
 quiet_still t end r ch o (ReleaseRequest again cause due) a h = absurd (true≢false h)
 quiet_still t end r ch o s a h = by_step (nat_le end t) IsQuietCall a t _ _ (λ _. refl) (λ _. refl)
@@ -353,7 +354,7 @@ quiet_still t end r ch o s a h = by_step (nat_le end t) IsQuietCall a t _ _ (λ 
 quiet_waits : (e : Entry) (t : ℕ) → IsQuietCall (waits e t false false).standing
 quiet_waits e t = by_cases (offers e t false) _ _ (λ (m : Moved). IsQuietCall m.standing) (λ _. refl) (λ _. by_cases (nat_le e.booking.end t) _ _ (λ (m : Moved). IsQuietCall m.standing) (λ _. tt) (λ _. tt))
 
-pub quiet_unlinked : (t : ℕ) (e : Entry) (s : Standing) → IsQuietCall s → IsQuietCall (unlinked_at e t s).standing
+pub quiet_unlinked : (t : ℕ) (e : Entry) (s : Standing) → IsQuietCall s → IsQuietCall (unlinked_at Three e t s).standing
 quiet_unlinked t e (OnCall c a) h = quiet_still t e.booking.end c.reference c.channel c.origin c.state a h
 quiet_unlinked t e Unoffered h = quiet_waits e t
 quiet_unlinked t e s h = tt
@@ -391,11 +392,11 @@ pub begun_tick : (u t : ℕ) (e : Entry) (back free : Bool) (s : Standing) → I
 begun_tick u t e back free (OnCall c a) h lt le = begun_second u t e.booking.end c.reference c.channel c.origin c.state a h lt le
 begun_tick u t e back free s h lt le = absurd h
 
-begun_still : (t end r ch : ℕ) (o : NetOrigin) (s : NetState) (a : Activity) → BegunIn s a → t < end → IsBegun (follows a t (net_unlinked 1 (call_of r ch o s) t end)).standing
+begun_still : (t end r ch : ℕ) (o : NetOrigin) (s : NetState) (a : Activity) → BegunIn s a → t < end → IsBegun (follows a t (net_unlinked Three 1 (call_of r ch o s) t end)).standing
 begun_still t end r ch o OutgoingCallProceeding Never h lt = by_step (nat_le end t) IsBegun Never t _ _ (λ ended. let late : end ≤ t = leb-true end t ended in absurd (omega (arith, late, lt))) (λ _. tt)
 begun_still t end r ch o s a h lt = absurd h
 
-pub begun_unlinked : (t : ℕ) (e : Entry) (s : Standing) → IsBegun s → t < e.booking.end → IsBegun (unlinked_at e t s).standing
+pub begun_unlinked : (t : ℕ) (e : Entry) (s : Standing) → IsBegun s → t < e.booking.end → IsBegun (unlinked_at Three e t s).standing
 begun_unlinked t e (OnCall c a) h lt = begun_still t e.booking.end c.reference c.channel c.origin c.state a h lt
 begun_unlinked t e s h lt = absurd h
 

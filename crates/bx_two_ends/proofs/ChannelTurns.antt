@@ -1,4 +1,5 @@
 -- A second with a link on a channel, and one without: how the two ends of it go on.
+use Rattle.bx_events.specs.declared.rules.Rules.TheVariants.{Three}
 use Rattle.std.proofs.Common.{◌≡◌, ◌≢◌, inl, inr, ℕ, ◌+◌, ◌≤◌, ◌<◌, ◌&&◌, not, nat_le, Bool, true, false, List, [], ◌∷◌, ◌++◌, Option, Some, None, refl, sym, ap, subst, ◌∙◌, arith, if◌then◌else◌}
 use Rattle.std.proofs.lemmas.Bool.{true≢false, eq-eqb, le-leb, lt-leb, leb-true, leb-false, cases_eq}
 use Rattle.bx_q931.specs.Outgoing.{Outgoing, plain}
@@ -76,18 +77,18 @@ near_after k c s h = record { channel = h.channel; origin = h.origin }
 far_after : (k : ℕ) (x : PlainUserCall) (s : UserState) → IsFarCall k x → IsFarCall k (record x { state = s })
 far_after k x s h = record { channel = h.channel; origin = h.origin }
 
-unlinked_ended : (c : PlainNetCall) (u end : ℕ) → net_is_clearing c.state ≡ false → end ≤ u → near_left (net_unlinked 1 c u end).next ≡ Some (record c { state = net.DisconnectIndication 16 (u + 1) })
+unlinked_ended : (c : PlainNetCall) (u end : ℕ) → net_is_clearing c.state ≡ false → end ≤ u → near_left (net_unlinked Three 1 c u end).next ≡ Some (record c { state = net.DisconnectIndication 16 (u + 1) })
 unlinked_ended c u end going ended =
-    ap (λ b. near_left (if not b && nat_le end u then net_to c None (net.DisconnectIndication 16 (u + 1)) else net_to c None (net_lost 1 u c.state)).next) going
-    ∙ ap (λ b. near_left (if b then net_to c None (net.DisconnectIndication 16 (u + 1)) else net_to c None (net_lost 1 u c.state)).next) (le-leb end u ended)
+    ap (λ b. near_left (if not b && nat_le end u then net_to c None (net.DisconnectIndication 16 (u + 1)) else net_to c None (net_lost Three 1 u c.state)).next) going
+    ∙ ap (λ b. near_left (if b then net_to c None (net.DisconnectIndication 16 (u + 1)) else net_to c None (net_lost Three 1 u c.state)).next) (le-leb end u ended)
 
-unlinked_goes : (c : PlainNetCall) (u end : ℕ) → net_is_clearing c.state ≡ false → u < end → near_left (net_unlinked 1 c u end).next ≡ Some (record c { state = net_lost 1 u c.state })
+unlinked_goes : (c : PlainNetCall) (u end : ℕ) → net_is_clearing c.state ≡ false → u < end → near_left (net_unlinked Three 1 c u end).next ≡ Some (record c { state = net_lost Three 1 u c.state })
 unlinked_goes c u end going late =
-    ap (λ b. near_left (if not b && nat_le end u then net_to c None (net.DisconnectIndication 16 (u + 1)) else net_to c None (net_lost 1 u c.state)).next) going
-    ∙ ap (λ b. near_left (if b then net_to c None (net.DisconnectIndication 16 (u + 1)) else net_to c None (net_lost 1 u c.state)).next) (lt-leb end u late)
+    ap (λ b. near_left (if not b && nat_le end u then net_to c None (net.DisconnectIndication 16 (u + 1)) else net_to c None (net_lost Three 1 u c.state)).next) going
+    ∙ ap (λ b. near_left (if b then net_to c None (net.DisconnectIndication 16 (u + 1)) else net_to c None (net_lost Three 1 u c.state)).next) (lt-leb end u late)
 
-unlinked_clears : (c : PlainNetCall) (u end : ℕ) → net_is_clearing c.state ≡ true → near_left (net_unlinked 1 c u end).next ≡ Some (record c { state = net_lost 1 u c.state })
-unlinked_clears c u end clears = ap (λ b. near_left (if not b && nat_le end u then net_to c None (net.DisconnectIndication 16 (u + 1)) else net_to c None (net_lost 1 u c.state)).next) clears
+unlinked_clears : (c : PlainNetCall) (u end : ℕ) → net_is_clearing c.state ≡ true → near_left (net_unlinked Three 1 c u end).next ≡ Some (record c { state = net_lost Three 1 u c.state })
+unlinked_clears c u end clears = ap (λ b. near_left (if not b && nat_le end u then net_to c None (net.DisconnectIndication 16 (u + 1)) else net_to c None (net_lost Three 1 u c.state)).next) clears
 
 -- kinds of states in it
 offering_going : (s : NetState) → IsOffering s → net_is_clearing s ≡ false
@@ -104,16 +105,16 @@ clearing_clears (net.DisconnectIndication cause due) h = refl
 clearing_clears (net.ReleaseRequest sent cause due) h = refl
 clearing_clears s h = absurd h
 
-offering_lost : (u : ℕ) (s : NetState) → IsOffering s → IsOffering (net_lost 1 u s) × LostNear u (net_lost 1 u s)
+offering_lost : (u : ℕ) (s : NetState) → IsOffering s → IsOffering (net_lost Three 1 u s) × LostNear u (net_lost Three 1 u s)
 offering_lost u (net.CallPresent offer due) h = (tt, refl)
 offering_lost u s h = absurd h
 
-talking_lost : (u : ℕ) (s : NetState) → IsTalkingState s → IsTalkingState (net_lost 1 u s) × LostNear u (net_lost 1 u s)
+talking_lost : (u : ℕ) (s : NetState) → IsTalkingState s → IsTalkingState (net_lost Three 1 u s) × LostNear u (net_lost Three 1 u s)
 talking_lost u net.Active h = (tt, refl)
 talking_lost u (net.Enquiring asked due) h = (tt, refl)
 talking_lost u s h = absurd h
 
-clearing_lost : (u : ℕ) (s : NetState) → IsClearingState s → IsClearingState (net_lost 1 u s) × LostNear u (net_lost 1 u s)
+clearing_lost : (u : ℕ) (s : NetState) → IsClearingState s → IsClearingState (net_lost Three 1 u s) × LostNear u (net_lost Three 1 u s)
 clearing_lost u (net.DisconnectIndication cause due) h = (tt, refl)
 clearing_lost u (net.ReleaseRequest sent cause due) h = (tt, refl)
 clearing_lost u s h = absurd h
@@ -140,10 +141,10 @@ module _ (ends : ℕ → ℕ) (k t : ℕ) (near : Option PlainNetCall) (far : Op
   near_ended : (c : PlainNetCall) → near ≡ Some c → net_is_clearing c.state ≡ false → ends c.reference ≤ t + 1 → near_outlasts ends (t + 1) near ≡ Some (record c { state = net.DisconnectIndication 16 (t + 1 + 1) })
   near_ended c n going ended = ap (near_outlasts ends (t + 1)) n ∙ unlinked_ended c (t + 1) (ends c.reference) going ended
 
-  near_goes : (c : PlainNetCall) → near ≡ Some c → net_is_clearing c.state ≡ false → t + 1 < ends c.reference → near_outlasts ends (t + 1) near ≡ Some (record c { state = net_lost 1 (t + 1) c.state })
+  near_goes : (c : PlainNetCall) → near ≡ Some c → net_is_clearing c.state ≡ false → t + 1 < ends c.reference → near_outlasts ends (t + 1) near ≡ Some (record c { state = net_lost Three 1 (t + 1) c.state })
   near_goes c n going late = ap (near_outlasts ends (t + 1)) n ∙ unlinked_goes c (t + 1) (ends c.reference) going late
 
-  near_clears : (c : PlainNetCall) → near ≡ Some c → net_is_clearing c.state ≡ true → near_outlasts ends (t + 1) near ≡ Some (record c { state = net_lost 1 (t + 1) c.state })
+  near_clears : (c : PlainNetCall) → near ≡ Some c → net_is_clearing c.state ≡ true → near_outlasts ends (t + 1) near ≡ Some (record c { state = net_lost Three 1 (t + 1) c.state })
   near_clears c n clears = ap (near_outlasts ends (t + 1)) n ∙ unlinked_clears c (t + 1) (ends c.reference) clears
 
   pub lost_after : IsLoose ends k t near far → IsLost ends k (t + 1) (near_outlasts ends (t + 1) near) (far_outlasts (t + 1) far)
@@ -158,7 +159,7 @@ module _ (ends : ℕ → ℕ) (k t : ℕ) (near : Option PlainNetCall) (far : Op
       (λ goes.
       let e = leb-false (ends c.reference) (t + 1) goes in
       let p = offering_lost (t + 1) c.state s in
-      states.Offered (record c { state = net_lost 1 (t + 1) c.state }) (near_goes c n (offering_going c.state s) e) (ap (far_outlasts (t + 1)) f) (near_after k c (net_lost 1 (t + 1) c.state) here) p.0 p.1 e)
+      states.Offered (record c { state = net_lost Three 1 (t + 1) c.state }) (near_goes c n (offering_going c.state s) e) (ap (far_outlasts (t + 1)) f) (near_after k c (net_lost Three 1 (t + 1) c.state) here) p.0 p.1 e)
   lost_after (OfferedBehind c x n f here there s s' q q' late early) =
       let g = releasing_lost (t + 1) x.state q in
       decide (nat_le (ends c.reference) (t + 1))
@@ -168,7 +169,7 @@ module _ (ends : ℕ → ℕ) (k t : ℕ) (near : Option PlainNetCall) (far : Op
       (λ goes.
       let e = leb-false (ends c.reference) (t + 1) goes in
       let p = offering_lost (t + 1) c.state s in
-      OfferedBehind (record c { state = net_lost 1 (t + 1) c.state }) (user_unlinked (t + 1) x) (near_goes c n (offering_going c.state s) e) (ap (far_outlasts (t + 1)) f) (near_after k c (net_lost 1 (t + 1) c.state) here) (far_after k x (user_later (t + 1) x.state) there) p.0 p.1 g.0 g.1 e (omega (arith, early)))
+      OfferedBehind (record c { state = net_lost Three 1 (t + 1) c.state }) (user_unlinked (t + 1) x) (near_goes c n (offering_going c.state s) e) (ap (far_outlasts (t + 1)) f) (near_after k c (net_lost Three 1 (t + 1) c.state) here) (far_after k x (user_later (t + 1) x.state) there) p.0 p.1 g.0 g.1 e (omega (arith, early)))
   lost_after (Connected c x n f here there same s s' q q' late) =
       let g = connecting_lost (t + 1) x.state q in
       decide (nat_le (ends c.reference) (t + 1))
@@ -178,7 +179,7 @@ module _ (ends : ℕ → ℕ) (k t : ℕ) (near : Option PlainNetCall) (far : Op
       (λ goes.
       let e = leb-false (ends c.reference) (t + 1) goes in
       let p = offering_lost (t + 1) c.state s in
-      Connected (record c { state = net_lost 1 (t + 1) c.state }) (user_unlinked (t + 1) x) (near_goes c n (offering_going c.state s) e) (ap (far_outlasts (t + 1)) f) (near_after k c (net_lost 1 (t + 1) c.state) here) (far_after k x (user_later (t + 1) x.state) there) same p.0 p.1 g.0 g.1 e)
+      Connected (record c { state = net_lost Three 1 (t + 1) c.state }) (user_unlinked (t + 1) x) (near_goes c n (offering_going c.state s) e) (ap (far_outlasts (t + 1)) f) (near_after k c (net_lost Three 1 (t + 1) c.state) here) (far_after k x (user_later (t + 1) x.state) there) same p.0 p.1 g.0 g.1 e)
   lost_after (Talks c x n f here there same s s' q q' late) =
       let g = up_lost (t + 1) x.state q in
       decide (nat_le (ends c.reference) (t + 1))
@@ -188,22 +189,22 @@ module _ (ends : ℕ → ℕ) (k t : ℕ) (near : Option PlainNetCall) (far : Op
       (λ goes.
       let e = leb-false (ends c.reference) (t + 1) goes in
       let p = talking_lost (t + 1) c.state s in
-      Talks (record c { state = net_lost 1 (t + 1) c.state }) (user_unlinked (t + 1) x) (near_goes c n (talking_going c.state s) e) (ap (far_outlasts (t + 1)) f) (near_after k c (net_lost 1 (t + 1) c.state) here) (far_after k x (user_later (t + 1) x.state) there) same p.0 p.1 g.0 g.1 e)
+      Talks (record c { state = net_lost Three 1 (t + 1) c.state }) (user_unlinked (t + 1) x) (near_goes c n (talking_going c.state s) e) (ap (far_outlasts (t + 1)) f) (near_after k c (net_lost Three 1 (t + 1) c.state) here) (far_after k x (user_later (t + 1) x.state) there) same p.0 p.1 g.0 g.1 e)
   lost_after (Cleared c n f here s s' early) =
       let p = clearing_lost (t + 1) c.state s in
-      Cleared (record c { state = net_lost 1 (t + 1) c.state }) (near_clears c n (clearing_clears c.state s)) (ap (far_outlasts (t + 1)) f) (near_after k c (net_lost 1 (t + 1) c.state) here) p.0 p.1 (omega (arith, early))
+      Cleared (record c { state = net_lost Three 1 (t + 1) c.state }) (near_clears c n (clearing_clears c.state s)) (ap (far_outlasts (t + 1)) f) (near_after k c (net_lost Three 1 (t + 1) c.state) here) p.0 p.1 (omega (arith, early))
   lost_after (ClearedAlone c x n f here there same s s' q q' early) =
       let p = clearing_lost (t + 1) c.state s in
       let g = up_lost (t + 1) x.state q in
-      ClearedAlone (record c { state = net_lost 1 (t + 1) c.state }) (user_unlinked (t + 1) x) (near_clears c n (clearing_clears c.state s)) (ap (far_outlasts (t + 1)) f) (near_after k c (net_lost 1 (t + 1) c.state) here) (far_after k x (user_later (t + 1) x.state) there) same p.0 p.1 g.0 g.1 (omega (arith, early))
+      ClearedAlone (record c { state = net_lost Three 1 (t + 1) c.state }) (user_unlinked (t + 1) x) (near_clears c n (clearing_clears c.state s)) (ap (far_outlasts (t + 1)) f) (near_after k c (net_lost Three 1 (t + 1) c.state) here) (far_after k x (user_later (t + 1) x.state) there) same p.0 p.1 g.0 g.1 (omega (arith, early))
   lost_after (ClearedBoth c x n f here there s s' q q' early far_early) =
       let p = clearing_lost (t + 1) c.state s in
       let g = releasing_lost (t + 1) x.state q in
-      ClearedBoth (record c { state = net_lost 1 (t + 1) c.state }) (user_unlinked (t + 1) x) (near_clears c n (clearing_clears c.state s)) (ap (far_outlasts (t + 1)) f) (near_after k c (net_lost 1 (t + 1) c.state) here) (far_after k x (user_later (t + 1) x.state) there) p.0 p.1 g.0 g.1 (omega (arith, early)) (omega (arith, far_early))
+      ClearedBoth (record c { state = net_lost Three 1 (t + 1) c.state }) (user_unlinked (t + 1) x) (near_clears c n (clearing_clears c.state s)) (ap (far_outlasts (t + 1)) f) (near_after k c (net_lost Three 1 (t + 1) c.state) here) (far_after k x (user_later (t + 1) x.state) there) p.0 p.1 g.0 g.1 (omega (arith, early)) (omega (arith, far_early))
 
 pub lost_kept : (ends : ℕ → ℕ) (k t : ℕ) (near : Option PlainNetCall) (far : Option PlainUserCall) → IsLoose ends k t near far → IsKeptOn ends (t + 1) near (near_outlasts ends (t + 1) near)
 lost_kept ends k t None far h = tt
-lost_kept ends k t (Some c) far h = λ late. by_cases (not (net_is_clearing c.state) && nat_le (ends c.reference) (t + 1)) (net_to c None (net.DisconnectIndication 16 (t + 1 + 1))) (net_to c None (net_lost 1 (t + 1) c.state)) (λ (step : Transition PlainNetCall). IsThere c.reference (near_left step.next)) (λ _. refl) (λ _. refl)
+lost_kept ends k t (Some c) far h = λ late. by_cases (not (net_is_clearing c.state) && nat_le (ends c.reference) (t + 1)) (net_to c None (net.DisconnectIndication 16 (t + 1 + 1))) (net_to c None (net_lost Three 1 (t + 1) c.state)) (λ (step : Transition PlainNetCall). IsThere c.reference (near_left step.next)) (λ _. refl) (λ _. refl)
 
 -- ---- a tick does not break a call that was lost, or is settled
 

@@ -1,5 +1,5 @@
 -- A message that was sent comes as its parts: what the codec reads of its octets is what was meant.
-use Rattle.bx_calls.specs.declared.rules.Rules.TheVariants.{Three}
+use Rattle.bx_events.specs.declared.rules.Rules.TheVariants.{Three}
 use Rattle.std.proofs.Common.{◌≡◌, ◌∙◌, ℕ, ◌==◌, ◌≤◌, ◌&&◌, not, Bool, true, false, Option, Some, None, option_map, refl, ap, arith, if◌then◌else◌}
 use Rattle.std.specs.Option.{IfSome}
 use Rattle.std.proofs.lemmas.Bool.{ne_eqb}

@@ -1,5 +1,5 @@
 -- The opening of a day whose far end answers, its seconds as events, and a link that is never lost.
-use Rattle.bx_calls.specs.declared.rules.Rules.TheVariants.{Two}
+use Rattle.bx_events.specs.declared.rules.Rules.TheVariants.{Two}
 use Rattle.std.proofs.Common.{◌≡◌, ◌≢◌, ℕ, zero, suc, ◌+◌, ◌≤◌, ◌<◌, ◌==◌, Bool, true, false, List, [], ◌∷◌, ◌++◌, map, length, Option, Some, None, arith, refl, sym, subst, ap, ◌∙◌, nat_le, nat_lt, inl, inr, ◌⊎◌, if◌then◌else◌, slice_index_or, replicate, is_some, take}
 use Rattle.std.proofs.lemmas.Bool.{false≢true, true≢false, and_from, le-leb, lt-ltb, eq-eqb, false_from_ne_true, cases_lt, eqb-true}
 use Rattle.bx_channels.specs.Marks.{is_marked}
@@ -10,7 +10,7 @@ use Rattle.bx_day.specs.Day.{Day, opening, entry_of, entries_from, entry_at, is_
 use Rattle.bx_two_ends.specs.Earning.{LiveSecond, Linked, Unlinked, events_in, events_of, heard_in, second_after, seconds_after, has_link, AreAnswered, AreCleared, IsAlone, HasSeconds, IsCalled, IsTalking, IsLongEnough, IsPunctual, IsCarriedBy, IsDayOfPlan, is_linked}
 use Rattle.bx_day.specs.Law.{standing_at}
 use Rattle.bx_calls.specs.Sending.{Sent}
-use Rattle.bx_day.specs.Outages.{without_link, live_happens, live_day_after}
+use Rattle.bx_day.specs.Outages.{without_link, without_link_by, live_happens, live_day_after}
 use Rattle.bx_day.specs.Ticks.{tick}
 use Rattle.bx_day.specs.declared.entry.Link.TheVariants.{Up, Down}
 use Rattle.bx_day.specs.Run.{receive_octets, receive_octets_by}
@@ -243,7 +243,7 @@ pub size_after : (rows : List Row) (events : List LiveEvent) (d : Day) → lengt
 size_after rows [] d h = h
 size_after rows (OnLink Tick ∷ es) d h = size_after rows es (tick d).day (by_cases (nat_le 300000 d.moment) _ _ (λ (s : Sent Day). length s.day.entries ≡ length rows) (λ _. h) (λ _. map_size Up d d.entries ∙ h))
 size_after rows (OnLink (Receive octets) ∷ es) d h = size_after rows es (receive_octets d octets).day (octets_day (λ x. length x.entries ≡ length rows) d octets h (λ s i. set_size d.entries i _ ∙ h) (λ s i op. set_size d.entries i _ ∙ h))
-size_after rows (WithoutLink ∷ es) d h = size_after rows es (without_link d) (by_cases (nat_le 300000 d.moment) _ _ (λ (x : Day). length x.entries ≡ length rows) (λ _. h) (λ _. map_size Down d d.entries ∙ h))
+size_after rows (WithoutLink rules ∷ es) d h = size_after rows es (without_link_by rules d) (by_cases (nat_le 300000 d.moment) _ _ (λ (x : Day). length x.entries ≡ length rows) (λ _. h) (λ _. map_size (Down rules) d d.entries ∙ h))
 size_after rows (Sold booking ∷ es) d h = size_after rows es d h
 size_after rows (HeardByRulesTwo octets ∷ es) d h = size_after rows es (receive_octets_by Two d octets).day (octets_day_by Two (λ x. length x.entries ≡ length rows) d octets h (λ s i. set_size d.entries i _ ∙ h) (λ s i op. set_size d.entries i _ ∙ h))
 

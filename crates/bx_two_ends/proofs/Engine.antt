@@ -551,7 +551,7 @@ module _ {R W S T D : Type 0} (remaining : R → Option (List ℕ)) (contents : 
     ran (Wrote octets done ∷ acts) (Ending d) s new t u k chain none well run = absurd run.0
     ran (Read most answer ∷ acts) (Ending d) s new t u k chain none well run = absurd run.0
     ran (Took message ∷ acts) (Ending d) s new t u k chain none well run = absurd run.0
-    ran acts (Logging d room WithoutLink) s new t u k chain none well run = absurd well
+    ran acts (Logging d room (WithoutLink rules)) s new t u k chain none well run = absurd well
     ran acts (Logging d room (Sold line)) s new t u k chain none well run = absurd well
     ran acts (Logging d room (HeardByRulesTwo octets)) s new t u k chain none well run = absurd well
     ran acts (Receiving d room (text ∷ owed) octets) s new t u k chain none well run = absurd well

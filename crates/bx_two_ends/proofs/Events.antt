@@ -1,4 +1,5 @@
 -- Each event of two ends keeps what is true of calls that the exchange began.
+use Rattle.bx_events.specs.declared.rules.Rules.TheVariants.{Three}
 use Rattle.std.proofs.Common.{◌≡◌, ℕ, suc, Bool, true, false, List, [], ◌∷◌, ◌++◌, length, Option, Some, None, refl, sym, ap, subst, nat_le, if◌then◌else◌}
 use Rattle.std.specs.List.{AllByRecursion}
 use Rattle.bx_channels.specs.ChannelNumbers.{IsChannel}
@@ -100,8 +101,8 @@ without_keeps : (rows : List Row) (assigned : List (Option ℕ)) (w : World) →
 without_keeps rows assigned w k =
     by_cases (nat_le 300000 w.exchange.moment) _ _ (λ (d : Day). RunFits rows assigned d → KeepsOutward rows assigned (exchange_becomes w d []))
     (λ _ run. exchange_step rows assigned w w.exchange [] k run k.seats (sents_grow assigned w.sent [] w.exchange w.exchange (λ i h. h) k.sents tt) (λ i. standing_grows (suc i) w.sent [] w.far_sent (standing_at w.exchange i) (k.standings i) (λ _. refl)))
-    (λ _ run. exchange_step rows assigned w (passed_in Down w.exchange).day [] k run (without_seats assigned w.exchange k.seats) (sents_grow assigned w.sent [] w.exchange (passed_in Down w.exchange).day (without_started w.exchange) k.sents tt) (without_standings w.sent w.far_sent w.exchange k.standings))
-    (without_run rows assigned w.exchange k.run)
+    (λ _ run. exchange_step rows assigned w (passed_in (Down Three) w.exchange).day [] k run (without_seats assigned w.exchange k.seats) (sents_grow assigned w.sent [] w.exchange (passed_in (Down Three) w.exchange).day (without_started w.exchange) k.sents tt) (without_standings w.sent w.far_sent w.exchange k.standings))
+    (without_run Three rows assigned w.exchange k.run)
 
 far_before : (rows : List Row) (assigned : List (Option ℕ)) (w : World) → KeepsOutward rows assigned w → FarBefore assigned w.sent w.far_sent w.far
 far_before rows assigned w k = record { replies = k.replies; calls = k.calls; apart = k.apart; size = k.size; places = k.places }

@@ -1,4 +1,6 @@
 -- A tick of the exchange, and a message that comes to it, keep what is true of calls that the far end began.
+use Rattle.bx_events.specs.declared.rules.Rules.TheVariants.{Three}
+use Rattle.bx_events.specs.declared.rules.Rules.{Rules}
 use Rattle.std.proofs.Common.{◌≡◌, ◌⊎◌, inl, inr, ℕ, zero, suc, ◌+◌, ◌<◌, ◌==◌, ◌&&◌, not, Bool, true, false, List, [], ◌∷◌, ◌++◌, map, length, Option, Some, None, refl, sym, ap, subst, ◌∙◌, arith, nat_le, slice_set, length-set}
 use Rattle.std.specs.List.{AllByRecursion, list_any, position}
 use Rattle.std.proofs.lemmas.Bool.{false≢true, true≢false, and_parts, and_from, eq-eqb, eqb-true, or_left, or_right, or_cases, not-true}
@@ -180,7 +182,7 @@ nothing_more n = omega arith
 
 none_breaks : (link : Link) (d : Day) (c i : ℕ) → breaks_in link d c (entry_at [] i) ≡ false
 none_breaks Up d c i = refl
-none_breaks Down d c i = refl
+none_breaks (Down rules) d c i = refl
 
 breaks_at : (link : Link) (named : ℕ → ℕ) (next : ℕ) (sent far_sent : List Outgoing) (d : Day) → TakenBefore named next sent far_sent d → (i : ℕ) → Breaks link d (entry_at d.entries i)
 breaks_at link named next sent far_sent d b i accepted broken =
@@ -247,29 +249,29 @@ ticked_takes named next sent far_sent d b =
     }
 
 -- and a second without a link, in which nothing is sent
-unlinked_moved : (named : ℕ → ℕ) (next : ℕ) (far_sent : List Outgoing) (e : Entry) (t : ℕ) (s : Standing) → TakenStanding named next s → PlacedAt e s → StandingMoves named next far_sent e.channel s (unlinked_at e t s)
-unlinked_moved named next far_sent e t (OnCall c a) h on =
-    let step : Transition PlainNetCall = net_unlinked 1 c t e.booking.end in
-    call_moves named next far_sent e.channel c a t false true step.reply step.next h on (net_unlinked_moves c.reference c.channel c.origin t e.booking.end c.state) (λ _ k. absurd (false≢true k)) (unlinked_says (OfCall c.reference c.origin) c t e.booking.end)
-unlinked_moved named next far_sent e t Refused h on = second_moved named next far_sent e t false false Refused h on
-unlinked_moved named next far_sent e t Unoffered h on = second_moved named next far_sent e t false false Unoffered h on
-unlinked_moved named next far_sent e t (Carried from until) h on = second_moved named next far_sent e t false false (Carried from until) h on
-unlinked_moved named next far_sent e t Unanswered h on = second_moved named next far_sent e t false false Unanswered h on
-unlinked_moved named next far_sent e t Missed h on = second_moved named next far_sent e t false false Missed h on
+unlinked_moved : (rules : Rules) (named : ℕ → ℕ) (next : ℕ) (far_sent : List Outgoing) (e : Entry) (t : ℕ) (s : Standing) → TakenStanding named next s → PlacedAt e s → StandingMoves named next far_sent e.channel s (unlinked_at rules e t s)
+unlinked_moved rules named next far_sent e t (OnCall c a) h on =
+    let step : Transition PlainNetCall = net_unlinked rules 1 c t e.booking.end in
+    call_moves named next far_sent e.channel c a t false true step.reply step.next h on (net_unlinked_moves rules c.reference c.channel c.origin t e.booking.end c.state) (λ _ k. absurd (false≢true k)) (unlinked_says rules (OfCall c.reference c.origin) c t e.booking.end)
+unlinked_moved rules named next far_sent e t Refused h on = second_moved named next far_sent e t false false Refused h on
+unlinked_moved rules named next far_sent e t Unoffered h on = second_moved named next far_sent e t false false Unoffered h on
+unlinked_moved rules named next far_sent e t (Carried from until) h on = second_moved named next far_sent e t false false (Carried from until) h on
+unlinked_moved rules named next far_sent e t Unanswered h on = second_moved named next far_sent e t false false Unanswered h on
+unlinked_moved rules named next far_sent e t Missed h on = second_moved named next far_sent e t false false Missed h on
 
 moved_in : (link : Link) (named : ℕ → ℕ) (next : ℕ) (far_sent : List Outgoing) (e : Entry) (t : ℕ) (back free : Bool) (s : Standing) → TakenStanding named next s → PlacedAt e s → StandingMoves named next far_sent e.channel s (second_by link e t back free s)
 moved_in Up named next far_sent e t back free s h on = second_moved named next far_sent e t back free s h on
-moved_in Down named next far_sent e t back free s h on = unlinked_moved named next far_sent e t s h on
+moved_in (Down rules) named next far_sent e t back free s h on = unlinked_moved rules named next far_sent e t s h on
 
-pub without_takes : (named : ℕ → ℕ) (next : ℕ) (sent far_sent : List Outgoing) (d : Day) → TakenBefore named next sent far_sent d → TakenAfter named next sent far_sent [] (passed_in Down d).day
+pub without_takes : (named : ℕ → ℕ) (next : ℕ) (sent far_sent : List Outgoing) (d : Day) → TakenBefore named next sent far_sent d → TakenAfter named next sent far_sent [] (passed_in (Down Three) d).day
 without_takes named next sent far_sent d b =
-    let all : AllByRecursion (Moves Down named next far_sent d) d.entries = all_from (Moves Down named next far_sent d) d.entries (λ i.
+    let all : AllByRecursion (Moves (Down Three) named next far_sent d) d.entries = all_from (Moves (Down Three) named next far_sent d) d.entries (λ i.
     let e = entry_at d.entries i in
-    moved_in Down named next far_sent e (d.moment + 1) (is_back d) (is_free d e.channel) e.standing (all_at (λ x. TakenStanding named next x.standing) tt d.entries i b.entries) (b.placed i)) in
+    moved_in (Down Three) named next far_sent e (d.moment + 1) (is_back d) (is_free d e.channel) e.standing (all_at (λ x. TakenStanding named next x.standing) tt d.entries i b.entries) (b.placed i)) in
     record {
-      replies = replies_grow named next sent far_sent [] d (passed_in Down d).day (λ r k. keep_held Down named next sent far_sent d b all r k) b.replies tt;
-      entries = tick_taken Down named next far_sent d d.entries all;
-      size = maintained_size Down d 0 d.maintenance ∙ b.size;
+      replies = replies_grow named next sent far_sent [] d (passed_in (Down Three) d).day (λ r k. keep_held (Down Three) named next sent far_sent d b all r k) b.replies tt;
+      entries = tick_taken (Down Three) named next far_sent d d.entries all;
+      size = maintained_size (Down Three) d 0 d.maintenance ∙ b.size;
     }
 
 -- ---- a message

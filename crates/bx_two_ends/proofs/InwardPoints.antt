@@ -1,4 +1,5 @@
 -- At every point of every list of events what is kept of calls that the far end began is true, and it says the law.
+use Rattle.bx_events.specs.declared.rules.Rules.TheVariants.{Three}
 use Rattle.std.proofs.Common.{◌≡◌, ◌⊎◌, inl, inr, ℕ, ◌+◌, ◌≤◌, ◌<◌, Bool, true, false, List, [], ◌∷◌, ◌++◌, Option, Some, None, refl, sym, subst, ◌∙◌, arith, nat_le}
 use Rattle.std.specs.List.{list_any}
 use Rattle.std.proofs.lemmas.Bool.{true≢false, and_parts}
@@ -108,7 +109,7 @@ tick_exchange rows assigned w o k = by_cases (nat_le 300000 w.exchange.moment) _
 without_link_inward : (rows : List Row) (assigned : List (Option ℕ)) (w : World) → KeepsOutward rows assigned w → KeepsInward w → KeepsInward (world_happens w WithoutLink)
 without_link_inward rows assigned w o k = by_cases (nat_le 300000 w.exchange.moment) _ _ (λ (d : Day). KeepsInward (exchange_becomes w d []))
     (λ _. exchange_inward w w.exchange [] k (unchanged_takes k.named w.far.next w.sent w.far_sent w.exchange None (before rows assigned w o k) tt))
-    (λ _. exchange_inward w (passed_in Down w.exchange).day [] k (without_takes k.named w.far.next w.sent w.far_sent w.exchange (before rows assigned w o k)))
+    (λ _. exchange_inward w (passed_in (Down Three) w.exchange).day [] k (without_takes k.named w.far.next w.sent w.far_sent w.exchange (before rows assigned w o k)))
 
 tick_far : (rows : List Row) (assigned : List (Option ℕ)) (w : World) → KeepsOutward rows assigned w → KeepsInward w → KeepsInward (world_happens w TickFar)
 tick_far rows assigned w o k = by_cases (nat_le 300000 w.far.moment) _ _ (λ (s : Sent FarDay). KeepsInward (far_becomes w s.day s.sent))

@@ -1,4 +1,5 @@
 -- Row by row of both call tables, for calls that the far end began: what a step of a call says, and where it leads.
+use Rattle.bx_events.specs.declared.rules.Rules.{Rules}
 use Rattle.std.proofs.Common.{◌≡◌, ℕ, ◌==◌, ◌%◌, ◌&&◌, ◌||◌, not, Bool, true, false, List, Option, Some, None, refl, sym, ap, ◌∙◌, nat_le}
 use Rattle.std.proofs.lemmas.Bool.{false≢true, or_left}
 use Rattle.bx_q931.specs.declared.kind.Kind.{Kind}
@@ -22,7 +23,7 @@ use Rattle.bx_calls.specs.declared.user_state.UserState.{UserState}
 use Rattle.bx_calls.specs.declared.user_state.UserState.TheVariants as user
 use Rattle.bx_calls.specs.Hearing.{Heard, names_channel, reports_null}
 use Rattle.bx_calls.specs.States.{state_value, user_state}
-use Rattle.bx_calls.specs.NetTable.{net_awake_state, net_heard, net_offer_due, net_put_off, net_row, net_second, net_timer, net_is_clearing, net_unlinked, net_later, net_rung, is_alerted}
+use Rattle.bx_calls.specs.NetTable.{net_awake_state, net_heard, net_offer_due, net_put_off, net_row, net_second, net_timer, net_is_clearing, net_unlinked, net_later, net_rung}
 use Rattle.bx_calls.specs.UserTable.{user_row, user_second, user_flag, user_releases}
 use Rattle.bx_day.proofs.Hear.{heard_by}
 use Rattle.bx_day.proofs.Said.{OfSaid}
@@ -35,9 +36,11 @@ use Rattle.bx_two_ends.specs.TwoEndsInward.{is_connect_kind}
 
 -- ---- a call of the exchange
 
--- N6, which only a call that the exchange began comes to
+-- N6, N9 and N7, which only a call that the exchange began comes to
 abbrev pub is_presented : NetState → Bool
 is_presented (net.CallPresent again due) = true
+is_presented (net.IncomingCallProceeding due) = true
+is_presented (net.CallReceived due) = true
 is_presented _ = false
 
 pub record NetGoes (r ch : ℕ) (o : NetOrigin) (s : NetState) (c : PlainNetCall) : Type 0 where
@@ -61,6 +64,10 @@ stays r ch o s = record { reference = refl; channel = refl; origin = refl; prese
 leads : (r ch : ℕ) (o : NetOrigin) (s s' : NetState) → is_presented s' ≡ false → NetGoes r ch o s (call_of r ch o s')
 leads r ch o s s' h = record { reference = refl; channel = refl; origin = refl; presented = λ q. absurd (false≢true (sym h ∙ q)) }
 
+-- a call that the exchange began
+own : (r ch : ℕ) (o : NetOrigin) (s s' : NetState) → is_presented s ≡ true → NetGoes r ch o s (call_of r ch o s')
+own r ch o s s' h = record { reference = refl; channel = refl; origin = refl; presented = λ _. h }
+
 abbrev NetRowMoves : ℕ → ℕ → NetOrigin → NetState → Heard → Kind → Transition PlainNetCall → Type 0
 NetRowMoves r ch o s m k step = NetMovesBy r ch o s (clears_as k m.state) false step
 
@@ -74,10 +81,10 @@ net_row_moves r ch o t m s Release = refl
 net_row_moves r ch o t m (net.ReleaseRequest again cause due) k = stays r ch o (net.ReleaseRequest again cause due)
 net_row_moves r ch o t m s Disconnect = leads r ch o s _ refl
 net_row_moves r ch o t m (net.DisconnectIndication cause due) k = stays r ch o (net.DisconnectIndication cause due)
-net_row_moves r ch o t m (net.CallPresent again due) CallProceeding = by_cases (names_channel m.channel ch) _ _ (NetRowMoves r ch o (net.CallPresent again due) m CallProceeding) (λ _. leads r ch o (net.CallPresent again due) _ refl) (λ _. leads r ch o (net.CallPresent again due) _ refl)
-net_row_moves r ch o t m (net.CallPresent again due) Alerting = by_cases (names_channel m.channel ch) _ _ (NetRowMoves r ch o (net.CallPresent again due) m Alerting) (λ _. leads r ch o (net.CallPresent again due) _ refl) (λ _. leads r ch o (net.CallPresent again due) _ refl)
+net_row_moves r ch o t m (net.CallPresent again due) CallProceeding = by_cases (names_channel m.channel ch) _ _ (NetRowMoves r ch o (net.CallPresent again due) m CallProceeding) (λ _. own r ch o (net.CallPresent again due) _ refl) (λ _. leads r ch o (net.CallPresent again due) _ refl)
+net_row_moves r ch o t m (net.CallPresent again due) Alerting = by_cases (names_channel m.channel ch) _ _ (NetRowMoves r ch o (net.CallPresent again due) m Alerting) (λ _. own r ch o (net.CallPresent again due) _ refl) (λ _. leads r ch o (net.CallPresent again due) _ refl)
 net_row_moves r ch o t m (net.CallPresent again due) Connect = by_cases (names_channel m.channel ch) _ _ (NetRowMoves r ch o (net.CallPresent again due) m Connect) (λ _. leads r ch o (net.CallPresent again due) _ refl) (λ _. leads r ch o (net.CallPresent again due) _ refl)
-net_row_moves r ch o t m (net.IncomingCallProceeding due) Alerting = leads r ch o (net.IncomingCallProceeding due) _ refl
+net_row_moves r ch o t m (net.IncomingCallProceeding due) Alerting = own r ch o (net.IncomingCallProceeding due) _ refl
 net_row_moves r ch o t m (net.IncomingCallProceeding due) Connect = leads r ch o (net.IncomingCallProceeding due) _ refl
 net_row_moves r ch o t m (net.CallReceived due) Connect = leads r ch o (net.CallReceived due) _ refl
 net_row_moves r ch (Outward called) t m net.Active ConnectAcknowledge = stays r ch (Outward called) net.Active
@@ -110,18 +117,18 @@ pub net_second_moves : (r ch : ℕ) (o : NetOrigin) (t end : ℕ) (s : NetState)
 net_second_moves r ch o t end s = by_cases (not (net_is_clearing s) && nat_le end t) _ _ (NetTickMoves r ch o s) (λ _. leads r ch o s _ refl) (λ _. timer_moves r ch o t s)
 
 -- in a second without a link
-still_moves : (r ch t : ℕ) (o : NetOrigin) (s : NetState) → NetGoes r ch o s (call_of r ch o (net_later 1 t s))
-still_moves r ch t o net.OutgoingCallProceeding = stays r ch o net.OutgoingCallProceeding
-still_moves r ch t o (net.CallPresent again due) = record { reference = refl; channel = refl; origin = refl; presented = λ h. refl }
-still_moves r ch t o (net.IncomingCallProceeding due) = leads r ch o (net.IncomingCallProceeding due) _ refl
-still_moves r ch t o (net.CallReceived due) = leads r ch o (net.CallReceived due) _ refl
-still_moves r ch t o net.Active = leads r ch o net.Active _ refl
-still_moves r ch t o (net.Enquiring asked due) = leads r ch o (net.Enquiring asked due) _ refl
-still_moves r ch t o (net.DisconnectIndication cause due) = leads r ch o (net.DisconnectIndication cause due) _ refl
-still_moves r ch t o (net.ReleaseRequest again cause due) = leads r ch o (net.ReleaseRequest again cause due) _ refl
+still_moves : (rules : Rules) (r ch t : ℕ) (o : NetOrigin) (s : NetState) → NetGoes r ch o s (call_of r ch o (net_later rules 1 t s))
+still_moves rules r ch t o net.OutgoingCallProceeding = stays r ch o net.OutgoingCallProceeding
+still_moves rules r ch t o (net.CallPresent again due) = record { reference = refl; channel = refl; origin = refl; presented = λ h. refl }
+still_moves rules r ch t o (net.IncomingCallProceeding due) = own r ch o (net.IncomingCallProceeding due) _ refl
+still_moves rules r ch t o (net.CallReceived due) = own r ch o (net.CallReceived due) _ refl
+still_moves rules r ch t o net.Active = leads r ch o net.Active _ refl
+still_moves rules r ch t o (net.Enquiring asked due) = leads r ch o (net.Enquiring asked due) _ refl
+still_moves rules r ch t o (net.DisconnectIndication cause due) = leads r ch o (net.DisconnectIndication cause due) _ refl
+still_moves rules r ch t o (net.ReleaseRequest again cause due) = leads r ch o (net.ReleaseRequest again cause due) _ refl
 
-pub net_unlinked_moves : (r ch : ℕ) (o : NetOrigin) (t end : ℕ) (s : NetState) → NetTickMoves r ch o s (net_unlinked 1 (call_of r ch o s) t end)
-net_unlinked_moves r ch o t end s = by_cases (not (net_is_clearing s) && nat_le end t) _ _ (NetTickMoves r ch o s) (λ _. leads r ch o s _ refl) (λ _. still_moves r ch t o s)
+pub net_unlinked_moves : (rules : Rules) (r ch : ℕ) (o : NetOrigin) (t end : ℕ) (s : NetState) → NetTickMoves r ch o s (net_unlinked rules 1 (call_of r ch o s) t end)
+net_unlinked_moves rules r ch o t end s = by_cases (not (net_is_clearing s) && nat_le end t) _ _ (NetTickMoves r ch o s) (λ _. leads r ch o s _ refl) (λ _. still_moves rules r ch t o s)
 
 -- a message, where the user may be asked
 asked_moves : (r ch : ℕ) (o : NetOrigin) (asked : Times) (due : ℕ) (cleared : Bool) (n : Next PlainNetCall) → NetMoves r ch o net.Active cleared false n → NetMoves r ch o (net.Enquiring asked due) cleared false n
@@ -138,8 +145,8 @@ put_off_moves : (r ch : ℕ) (o : NetOrigin) (t : ℕ) (offer : Offer) (due : �
 put_off_moves r ch o t offer due s h = record { reference = refl; channel = refl; origin = refl; presented = λ _. h }
 
 -- it rings
-rung_moves : (r ch : ℕ) (o : NetOrigin) (t : ℕ) (reported : Option ℕ) (s : NetState) → NetGoes r ch o s (call_of r ch o (net_rung t reported))
-rung_moves r ch o t reported s = by_cases (is_alerted reported) _ _ (λ (x : NetState). NetGoes r ch o s (call_of r ch o x)) (λ _. leads r ch o s _ refl) (λ _. leads r ch o s _ refl)
+rung_moves : (r ch : ℕ) (o : NetOrigin) (t : ℕ) (reported : Option ℕ) (s : NetState) → is_presented s ≡ true → NetGoes r ch o s (call_of r ch o (net_rung t reported))
+rung_moves r ch o t reported s h = own r ch o s _ h
 
 pub net_heard_moves : (r ch : ℕ) (o : NetOrigin) (t : ℕ) (m : Heard) (s : NetState) (k : Kind) → NetRowMoves r ch o s m k (net_heard (call_of r ch o s) m t s k)
 net_heard_moves r ch o t m s k = heard_by (NetRowMoves r ch o s m k) (call_of r ch o s) m t s k
@@ -149,7 +156,7 @@ net_heard_moves r ch o t m s k = heard_by (NetRowMoves r ch o s m k) (call_of r 
       connected = λ due is q. leads r ch o s _ refl;
       put_off = λ offer due is q. put_off_moves r ch o t offer due s (ap is_presented is);
       unconnected = λ asked due is q. leads r ch o s _ refl;
-      ringing = λ due is q. rung_moves r ch o t m.state s;
+      ringing = λ due is q. rung_moves r ch o t m.state s (ap is_presented is);
     })
     (awake_moves r ch o s (clears_as k m.state) (net_row (call_of r ch o (net_awake_state s)) m t (net_awake_state s) k).next (net_row_moves r ch o t m (net_awake_state s) k))
 

@@ -1,5 +1,7 @@
 -- A message names one live call at most: those that the exchange began by their references, which are their rows, and those that the far end began because
 -- a SETUP with the reference of one goes to it.
+use Rattle.bx_events.specs.declared.rules.Rules.TheVariants.{Two, Three}
+use Rattle.bx_events.specs.declared.rules.Rules.{Rules}
 use Rattle.std.proofs.Common.{◌≡◌, ℕ, zero, suc, ◌+◌, ◌<◌, ◌==◌, ◌&&◌, not, Bool, true, false, List, [], ◌∷◌, length, Option, Some, None, arith, refl, sym, subst, ap, ◌∙◌, slice_set, nat_le, inl, inr, ◌⊎◌, if◌then◌else◌}
 use Rattle.std.specs.Option.{option_map}
 use Rattle.std.specs.List.{position}
@@ -163,10 +165,14 @@ second_keeps m t end r ch o (DisconnectIndication cause due) a = by_step (nat_le
 second_keeps m t end r ch o (ReleaseRequest Twice cause due) a = by_step (nat_le due t) m r o a t _ _ (over_keeps m r o a t) (λ h. h)
 second_keeps m t end r ch o (ReleaseRequest sent cause due) a = by_step (nat_le due t) m r o a t _ _ (λ h. h) (λ h. h)
 
-still_keeps : (m : Said) (t end r ch : ℕ) (o : NetOrigin) (s : NetState) (a : Activity) → Keeps m r o (follows a t (net_unlinked 1 (call_of r ch o s) t end)).standing
-still_keeps m t end r ch o (DisconnectIndication cause due) a = λ h. h
-still_keeps m t end r ch o (ReleaseRequest again cause due) a = λ h. h
-still_keeps m t end r ch o s a = by_step (nat_le end t) m r o a t _ _ (λ h. h) (λ h. h)
+still_keeps : (rules : Rules) (m : Said) (t end r ch : ℕ) (o : NetOrigin) (s : NetState) (a : Activity) → Keeps m r o (follows a t (net_unlinked rules 1 (call_of r ch o s) t end)).standing
+still_keeps rules m t end r ch o (DisconnectIndication cause due) a = λ h. h
+still_keeps rules m t end r ch o (ReleaseRequest again cause due) a = λ h. h
+still_keeps Two m t end r ch o (IncomingCallProceeding due) a = by_step (nat_le end t) m r o a t _ _ (λ h. h) (λ h. h)
+still_keeps Three m t end r ch o (IncomingCallProceeding due) a = by_step (nat_le end t) m r o a t _ _ (λ h. h) (λ h. h)
+still_keeps Two m t end r ch o (CallReceived due) a = by_step (nat_le end t) m r o a t _ _ (λ h. h) (λ h. h)
+still_keeps Three m t end r ch o (CallReceived due) a = by_step (nat_le end t) m r o a t _ _ (λ h. h) (λ h. h)
+still_keeps rules m t end r ch o s a = by_step (nat_le end t) m r o a t _ _ (λ h. h) (λ h. h)
 
 row_keeps : (m : Said) (x : Heard) (t r ch : ℕ) (o : NetOrigin) (s : NetState) (a : Activity) (k : Kind) → Keeps m r o (follows a t (net_row (call_of r ch o s) x t s k)).standing
 row_keeps m x t r ch o s a ReleaseComplete = over_keeps m r o a t
@@ -202,9 +208,9 @@ waits_names m e t back free flag = by_cases (offers e t free) _ _ (λ (x : Moved
 
 second_names : (link : Link) (m : Said) (e : Entry) (t : ℕ) (back free : Bool) (s : Standing) → m.flag ≡ false → names_call m (second_by link e t back free s).standing ≡ true → names_call m s ≡ true
 second_names Up m e t back free (OnCall c a) flag h = second_keeps m t e.booking.end c.reference c.channel c.origin c.state a h
-second_names Down m e t back free (OnCall c a) flag h = still_keeps m t e.booking.end c.reference c.channel c.origin c.state a h
+second_names (Down rules) m e t back free (OnCall c a) flag h = still_keeps rules m t e.booking.end c.reference c.channel c.origin c.state a h
 second_names Up m e t back free Unoffered flag h = absurd (true≢false (sym h ∙ waits_names m e t back free flag))
-second_names Down m e t back free Unoffered flag h = absurd (true≢false (sym h ∙ waits_names m e t false false flag))
+second_names (Down rules) m e t back free Unoffered flag h = absurd (true≢false (sym h ∙ waits_names m e t false false flag))
 second_names link m e t back free s flag h = h
 
 -- a second keeps that each is named once

@@ -1,4 +1,5 @@
 -- The exchange's seconds, channel by channel, where it alone begins calls: with a link what `NearTicks` says, without one what `near_outlasts` says.
+use Rattle.bx_events.specs.declared.rules.Rules.TheVariants.{Three}
 use Rattle.std.proofs.Common.{◌≡◌, ◌≢◌, ℕ, zero, suc, ◌+◌, ◌≤◌, ◌<◌, ◌==◌, ◌&&◌, ◌||◌, not, nat_le, Bool, true, false, List, [], ◌∷◌, ◌++◌, length, Option, Some, None, refl, sym, ap, subst, ◌∙◌, arith, if◌then◌else◌, inl, inr, ◌⊎◌}
 use Rattle.std.proofs.lemmas.Bool.{false≢true, true≢false, and_parts, eq-eqb, eqb-true, eqb-false, ne_eqb, not-true, leb-true, cases_eq, false_from_ne_true}
 use Rattle.std.proofs.lemmas.List.{append-nil}
@@ -104,7 +105,7 @@ never_begins : (t : ℕ) (free : Bool) (e : Entry) → free ≡ false → is_liv
 never_begins t free e taken idle (Before live) = true≢false (sym live ∙ idle)
 never_begins t free e taken idle (Offered accepted runs f) = true≢false (sym f ∙ taken)
 
-unlinked_live : (e : Entry) (t : ℕ) (s : Standing) → is_live (unlinked_at e t s).standing ≡ true → is_live s ≡ true
+unlinked_live : (e : Entry) (t : ℕ) (s : Standing) → is_live (unlinked_at Three e t s).standing ≡ true → is_live s ≡ true
 unlinked_live e t (OnCall c a) live = refl
 unlinked_live e t Unoffered live = absurd (never_begins t false (record e { standing = Unoffered }) refl refl (second_live t false false e Unoffered live))
 unlinked_live e t s live = live
@@ -114,11 +115,11 @@ still_waits e t early = by_cases (offers e t false) _ _ (λ (m : Moved). m.stand
     (λ offered. absurd (false≢true (offers_parts e t false offered).2))
     (λ _. by_cases (nat_le e.booking.end t) _ _ (λ (m : Moved). m.standing ≡ Unoffered) (λ over. let le : e.booking.end ≤ t = leb-true e.booking.end t over in absurd (omega (arith, le, early))) (λ _. refl))
 
-unlinked_outward : (i t : ℕ) (e : Entry) (s : Standing) → IsOutward i s → StandingWithin s → IsOutward i (unlinked_at e t s).standing
+unlinked_outward : (i t : ℕ) (e : Entry) (s : Standing) → IsOutward i s → StandingWithin s → IsOutward i (unlinked_at Three e t s).standing
 unlinked_outward i t e (OnCall c a) out w =
-    let step : Transition PlainNetCall = net_unlinked 1 c t e.booking.end in
-    (follow_outward i a t step.reply step.next (goes_keeps i c c.state false step.reply step.next out w (unlinked_goes c.reference c.channel c.origin t e.booking.end c.state))).0
-unlinked_outward i t e Unoffered out w = idle_outward i (unlinked_at e t Unoffered).standing (false_from_ne_true (is_live (unlinked_at e t Unoffered).standing) (λ live. false≢true (unlinked_live e t Unoffered live)))
+    let step : Transition PlainNetCall = net_unlinked Three 1 c t e.booking.end in
+    (follow_outward i a t step.reply step.next (goes_keeps i c c.state false step.reply step.next out w (unlinked_goes Three c.reference c.channel c.origin t e.booking.end c.state))).0
+unlinked_outward i t e Unoffered out w = idle_outward i (unlinked_at Three e t Unoffered).standing (false_from_ne_true (is_live (unlinked_at Three e t Unoffered).standing) (λ live. false≢true (unlinked_live e t Unoffered live)))
 unlinked_outward i t e s out w = out
 
 pub record NearUnlinked (rows : List Row) (assigned : List (Option ℕ)) (t : ℕ) (d x : Day) : Type 0 where
@@ -128,46 +129,46 @@ pub record NearUnlinked (rows : List Row) (assigned : List (Option ℕ)) (t : �
   pub back : is_back x ≡ true
   pub channels : (j : ℕ) → (entry_at x.entries j).channel ≡ (entry_at d.entries j).channel
 
-unlinked_now : (rows : List Row) (assigned : List (Option ℕ)) (d : Day) → d.moment < 300000 → NearFits rows assigned d.moment d → NearUnlinked rows assigned d.moment d (passed_in Down d).day
+unlinked_now : (rows : List Row) (assigned : List (Option ℕ)) (d : Day) → d.moment < 300000 → NearFits rows assigned d.moment d → NearUnlinked rows assigned d.moment d (passed_in (Down Three) d).day
 unlinked_now rows assigned d early h = record {
   fits = record {
     bookings = h.bookings;
-    fits = subst (RunFits rows assigned) (without_is d early) (without_run rows assigned d h.fits);
-    size = map_size Down d d.entries ∙ h.size;
-    exchange = passed_stays Down d early h.exchange;
-    clean = marks_kept Down d (λ j. let e = entry_at d.entries j in whole_unlinked (d.moment + 1) e e.standing) h.clean;
+    fits = subst (RunFits rows assigned) (without_is d early) (without_run Three rows assigned d h.fits);
+    size = map_size (Down Three) d d.entries ∙ h.size;
+    exchange = passed_stays (Down Three) d early h.exchange;
+    clean = marks_kept (Down Three) d (λ j. let e = entry_at d.entries j in whole_unlinked (d.moment + 1) e e.standing) h.clean;
     moment = refl;
-    outward = λ i. subst (IsOutward i) (sym (after_standing Down d i)) (unlinked_outward i (d.moment + 1) (entry_at d.entries i) (standing_at d i) (h.outward i) (h.within i));
+    outward = λ i. subst (IsOutward i) (sym (after_standing (Down Three) d i)) (unlinked_outward i (d.moment + 1) (entry_at d.entries i) (standing_at d i) (h.outward i) (h.within i));
     within = subst ExchangeWithin (without_is d early) (without_within assigned d (near_seats rows assigned d.moment d h) h.within);
   };
   here = here;
   waits = λ j lt is later.
       (let e : Entry = entry_at d.entries j in
       let ends : (row_at rows j).end ≡ e.booking.end = sym (ap (λ (r : Row). r.end) (h.fits.framed.0 j lt).booking) in
-      after_standing Down d j ∙ ap (λ s. (unlinked_at e (d.moment + 1) s).standing) is ∙ still_waits e (d.moment + 1) (subst (λ n. d.moment + 1 < n) ends later));
+      after_standing (Down Three) d j ∙ ap (λ s. (unlinked_at Three e (d.moment + 1) s).standing) is ∙ still_waits e (d.moment + 1) (subst (λ n. d.moment + 1 < n) ends later));
   back = eq-eqb (d.moment + 2) (d.moment + 1 + 1) (omega arith);
-  channels = λ j. after_channel Down d j;
+  channels = λ j. after_channel (Down Three) d j;
 }
   where
-    was : (j : ℕ) → is_live (standing_at (passed_in Down d).day j) ≡ true → is_live (standing_at d j) ≡ true
-    was j live = unlinked_live (entry_at d.entries j) (d.moment + 1) (standing_at d j) (sym (ap is_live (after_standing Down d j)) ∙ live)
+    was : (j : ℕ) → is_live (standing_at (passed_in (Down Three) d).day j) ≡ true → is_live (standing_at d j) ≡ true
+    was j live = unlinked_live (entry_at d.entries j) (d.moment + 1) (standing_at d j) (sym (ap is_live (after_standing (Down Three) d j)) ∙ live)
 
-    here : (k : ℕ) (v : Option PlainNetCall) → NearIs d k v → NearIs (passed_in Down d).day k (near_outlasts (ends_of rows) (d.moment + 1) v)
-    here k None near = λ j live on. near j (was j live) (sym (after_channel Down d j) ∙ on)
+    here : (k : ℕ) (v : Option PlainNetCall) → NearIs d k v → NearIs (passed_in (Down Three) d).day k (near_outlasts (ends_of rows) (d.moment + 1) v)
+    here k None near = λ j live on. near j (was j live) (sym (after_channel (Down Three) d j) ∙ on)
     here k (Some c) near =
         let i : ℕ = near.0 in
         let e : Entry = entry_at d.entries i in
         let l : LiveAt rows assigned d i c = live_at rows assigned d.moment d i c near.1 h near.2 in
-        let step : Transition PlainNetCall = net_unlinked 1 c (d.moment + 1) (ends_of rows c.reference) in
-        followed (passed_in Down d).day k i near.1 (d.moment + 1) step.reply step.next
-        (after_standing Down d i ∙ ap (λ s. (unlinked_at e (d.moment + 1) s).standing) near.2 ∙ ap (λ n. (follows near.1 (d.moment + 1) (net_unlinked 1 c (d.moment + 1) n)).standing) (end_at rows assigned d i c l))
-        (after_channel Down d i ∙ near.3)
-        (λ j other live there. other (one_live rows assigned d.moment d k j i h (was j live) l.live (sym (after_channel Down d j) ∙ there) near.3))
+        let step : Transition PlainNetCall = net_unlinked Three 1 c (d.moment + 1) (ends_of rows c.reference) in
+        followed (passed_in (Down Three) d).day k i near.1 (d.moment + 1) step.reply step.next
+        (after_standing (Down Three) d i ∙ ap (λ s. (unlinked_at Three e (d.moment + 1) s).standing) near.2 ∙ ap (λ n. (follows near.1 (d.moment + 1) (net_unlinked Three 1 c (d.moment + 1) n)).standing) (end_at rows assigned d i c l))
+        (after_channel (Down Three) d i ∙ near.3)
+        (λ j other live there. other (one_live rows assigned d.moment d k j i h (was j live) l.live (sym (after_channel (Down Three) d j) ∙ there) near.3))
 
 pub near_unlinked : (rows : List Row) (assigned : List (Option ℕ)) (t : ℕ) (d : Day) → NearFits rows assigned t d → t < 300000 → NearUnlinked rows assigned t d (without_link d)
 near_unlinked rows assigned t d h early =
     let now : d.moment < 300000 = subst (λ n. n < 300000) (sym h.moment) early in
-    subst (NearUnlinked rows assigned t d) (sym (without_is d now)) (subst (λ n. NearUnlinked rows assigned n d (passed_in Down d).day) h.moment (unlinked_now rows assigned d now (now_fits rows assigned t d h)))
+    subst (NearUnlinked rows assigned t d) (sym (without_is d now)) (subst (λ n. NearUnlinked rows assigned n d (passed_in (Down Three) d).day) h.moment (unlinked_now rows assigned d now (now_fits rows assigned t d h)))
 
 -- ---- what a call says at a tick
 

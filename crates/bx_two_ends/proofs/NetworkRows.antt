@@ -1,4 +1,6 @@
 -- Row by row of the network side's call table: what a step of a call says, and where it leads.
+use Rattle.bx_events.specs.declared.rules.Rules.TheVariants.{Two, Three}
+use Rattle.bx_events.specs.declared.rules.Rules.{Rules}
 use Rattle.std.proofs.Common.{◌≡◌, ℕ, ◌==◌, ◌%◌, ◌&&◌, ◌||◌, not, Bool, true, false, Option, Some, None, refl, sym, subst, ap, ◌∙◌, if◌then◌else◌, nat_le}
 use Rattle.bx_q931.specs.declared.kind.Kind.{Kind}
 use Rattle.bx_q931.specs.declared.kind.Kind.TheVariants.{Alerting, CallProceeding, Progress, Setup, Connect, ConnectAcknowledge, Disconnect, Release, ReleaseComplete, Notify, StatusEnquiry, Information, Status, Other}
@@ -147,18 +149,20 @@ pub second_goes : (r ch : ℕ) (o : NetOrigin) (t end : ℕ) (s : NetState) → 
 second_goes r ch o t end s = by_cases (not (net_is_clearing s) && nat_le end t) _ _ (GoesOn r ch o s false) (λ _. clearing r ch o s _ false _ refl refl refl) (λ _. timer_goes r ch o t s)
 
 -- in a second without a link
-still_goes : (r ch t : ℕ) (o : NetOrigin) (s : NetState) → Goes r ch o s false None (call_of r ch o (net_later 1 t s))
-still_goes r ch t o OutgoingCallProceeding = same r ch o OutgoingCallProceeding false None tt
-still_goes r ch t o (CallPresent again due) = ringing r ch o (CallPresent again due) _ false None refl refl refl tt
-still_goes r ch t o (IncomingCallProceeding due) = ringing r ch o (IncomingCallProceeding due) _ false None refl refl refl tt
-still_goes r ch t o (CallReceived due) = ringing r ch o (CallReceived due) _ false None refl refl refl tt
-still_goes r ch t o Active = asking r ch o Active _ false None refl refl refl tt
-still_goes r ch t o (Enquiring asked due) = asking r ch o (Enquiring asked due) _ false None refl refl refl tt
-still_goes r ch t o (DisconnectIndication cause due) = clearing r ch o (DisconnectIndication cause due) _ false None refl refl refl
-still_goes r ch t o (ReleaseRequest again cause due) = clearing r ch o (ReleaseRequest again cause due) _ false None refl refl refl
+still_goes : (rules : Rules) (r ch t : ℕ) (o : NetOrigin) (s : NetState) → Goes r ch o s false None (call_of r ch o (net_later rules 1 t s))
+still_goes rules r ch t o OutgoingCallProceeding = same r ch o OutgoingCallProceeding false None tt
+still_goes rules r ch t o (CallPresent again due) = ringing r ch o (CallPresent again due) _ false None refl refl refl tt
+still_goes Two r ch t o (IncomingCallProceeding due) = ringing r ch o (IncomingCallProceeding due) _ false None refl refl refl tt
+still_goes Three r ch t o (IncomingCallProceeding due) = ringing r ch o (IncomingCallProceeding due) _ false None refl refl refl tt
+still_goes Two r ch t o (CallReceived due) = ringing r ch o (CallReceived due) _ false None refl refl refl tt
+still_goes Three r ch t o (CallReceived due) = ringing r ch o (CallReceived due) _ false None refl refl refl tt
+still_goes rules r ch t o Active = asking r ch o Active _ false None refl refl refl tt
+still_goes rules r ch t o (Enquiring asked due) = asking r ch o (Enquiring asked due) _ false None refl refl refl tt
+still_goes rules r ch t o (DisconnectIndication cause due) = clearing r ch o (DisconnectIndication cause due) _ false None refl refl refl
+still_goes rules r ch t o (ReleaseRequest again cause due) = clearing r ch o (ReleaseRequest again cause due) _ false None refl refl refl
 
-pub unlinked_goes : (r ch : ℕ) (o : NetOrigin) (t end : ℕ) (s : NetState) → GoesOn r ch o s false (net_unlinked 1 (call_of r ch o s) t end)
-unlinked_goes r ch o t end s = by_cases (not (net_is_clearing s) && nat_le end t) _ _ (GoesOn r ch o s false) (λ _. clearing r ch o s _ false None refl refl refl) (λ _. still_goes r ch t o s)
+pub unlinked_goes : (rules : Rules) (r ch : ℕ) (o : NetOrigin) (t end : ℕ) (s : NetState) → GoesOn r ch o s false (net_unlinked rules 1 (call_of r ch o s) t end)
+unlinked_goes rules r ch o t end s = by_cases (not (net_is_clearing s) && nat_le end t) _ _ (GoesOn r ch o s false) (λ _. clearing r ch o s _ false None refl refl refl) (λ _. still_goes rules r ch t o s)
 
 -- a message, where the user may be asked
 asked_goes : (r ch : ℕ) (o : NetOrigin) (asked : Times) (due : ℕ) (k : Bool) (reply : Option Outgoing) (n : Next PlainNetCall) → OnNext (Goes r ch o Active k reply) n → OnNext (Goes r ch o (Enquiring asked due) k reply) n
@@ -286,5 +290,5 @@ pub second_speaks : (r ch : ℕ) (o : NetOrigin) (t end : ℕ) (s : NetState) �
 second_speaks r ch o t end s = test_said (Speaks r ch o) (not (net_is_clearing s) && nat_le end t) _ _ (other r ch o _ refl refl refl) (timer_speaks r ch o t s)
 
 -- in a second without a link nothing is
-pub unlinked_says : (P : Outgoing → Type 0) (c : PlainNetCall) (t end : ℕ) → OfSaid P (net_unlinked 1 c t end).reply
-unlinked_says P c t end = test_said P (not (net_is_clearing c.state) && nat_le end t) _ _ tt tt
+pub unlinked_says : (rules : Rules) (P : Outgoing → Type 0) (c : PlainNetCall) (t end : ℕ) → OfSaid P (net_unlinked rules 1 c t end).reply
+unlinked_says rules P c t end = test_said P (not (net_is_clearing c.state) && nat_le end t) _ _ tt tt

@@ -1,6 +1,6 @@
 -- What both ends make of messages on one channel, where the script of the far end answers each call, and calls nobody: the
 -- call there, if there is one, and what is said. Calls of other channels have no part in it.
-use Rattle.bx_calls.specs.declared.rules.Rules.TheVariants.{Three}
+use Rattle.bx_events.specs.declared.rules.Rules.TheVariants.{Three}
 use Rattle.std.specs.Prelude.{◌≡◌, ◌⊎◌, ℕ, ◌<◌, ◌==◌, Bool, true, false, List, [], ◌∷◌, ◌++◌, Option, Some, None, option_map, if◌then◌else◌}
 use Rattle.bx_q931.specs.Outgoing.{Outgoing}
 use Rattle.bx_q931.specs.Parts.{channel_part}
@@ -80,7 +80,7 @@ NearTicks ends is_back k t (Some call) left = left ≡ near_stepped (net_second 
 -- a second without a link, to moment t
 abbrev pub near_outlasts : (ℕ → ℕ) → ℕ → Option PlainNetCall → Option PlainNetCall
 near_outlasts ends t None = None
-near_outlasts ends t (Some call) = near_left (net_unlinked 1 call t (ends call.reference)).next
+near_outlasts ends t (Some call) = near_left (net_unlinked Three 1 call t (ends call.reference)).next
 
 -- ---- the far end
 

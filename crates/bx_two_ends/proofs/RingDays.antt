@@ -1,7 +1,8 @@
 -- Where the far end answers each call in its own time, an outward booking goes on from its second second with a link at the latest, and is
 -- Active when the seconds that it may ring are over. What goes on from there is the law of a call that is Active.
+use Rattle.bx_events.specs.declared.rules.Rules.TheVariants.{Three}
 use Rattle.std.proofs.Common.{◌≡◌, ◌≢◌, ℕ, zero, suc, ◌+◌, ◌-◌, ◌≤◌, ◌<◌, not, Bool, true, false, List, [], ◌∷◌, length, take, Option, arith, refl, sym, subst, ap, ◌∙◌, nat_le, inl, inr, ◌⊎◌, if◌then◌else◌}
-use Rattle.std.proofs.lemmas.Bool.{false≢true, true≢false, leb-true, leb-false, false_from_ne_true, cases_lt}
+use Rattle.std.proofs.lemmas.Bool.{false≢true, true≢false, leb-true, false_from_ne_true, cases_lt}
 use Rattle.bx_base.specs.Bookings.{Row, row_at, is_running, AreBookings, Carries}
 use Rattle.bx_base.specs.Plans.{is_accepted, channel_at}
 use Rattle.bx_calls.specs.NetTable.{net_second, net_unlinked, net_is_clearing}
@@ -65,12 +66,12 @@ going_tick t e back free (OnCall c a) g q w lt = going_second t e.booking.end c.
 going_tick t e back free s g q w lt = absurd (false≢true g)
 
 -- and one without a link
-going_still : (t end r ch : ℕ) (o : NetOrigin) (s : NetState) (a : Activity) → not (net_is_clearing s) ≡ true → t < end → is_going (follows a t (net_unlinked 1 (call_of r ch o s) t end)).standing ≡ true
+going_still : (t end r ch : ℕ) (o : NetOrigin) (s : NetState) (a : Activity) → not (net_is_clearing s) ≡ true → t < end → is_going (follows a t (net_unlinked Three 1 (call_of r ch o s) t end)).standing ≡ true
 going_still t end r ch o (DisconnectIndication cause due) a g lt = absurd (false≢true g)
 going_still t end r ch o (ReleaseRequest again cause due) a g lt = absurd (false≢true g)
 going_still t end r ch o s a g lt = by_going (nat_le end t) a t _ _ (late t end _ lt) (λ _. refl)
 
-going_unlinked : (t : ℕ) (e : Entry) (s : Standing) → is_going s ≡ true → t < e.booking.end → is_going (unlinked_at e t s).standing ≡ true
+going_unlinked : (t : ℕ) (e : Entry) (s : Standing) → is_going s ≡ true → t < e.booking.end → is_going (unlinked_at Three e t s).standing ≡ true
 going_unlinked t e (OnCall c a) g lt = going_still t e.booking.end c.reference c.channel c.origin c.state a g lt
 going_unlinked t e s g lt = absurd (false≢true g)
 
@@ -78,21 +79,15 @@ by_patient : (b : Bool) (a : Activity) (t u : ℕ) (x y : Transition PlainNetCal
 by_patient true a t u x y f g = f
 by_patient false a t u x y f g = g
 
--- its timer stands still
-put_off : (due t : ℕ) → nat_le due t ≡ false → nat_le (due + 1) (t + 1) ≡ false
-put_off due t h = false_from_ne_true (nat_le (due + 1) (t + 1)) (λ is. let le : due + 1 ≤ t + 1 = leb-true (due + 1) (t + 1) is in let lt : t < due = leb-false due t h in absurd (omega (arith, le, lt)))
-
-patient_still : (t end r ch : ℕ) (o : NetOrigin) (s : NetState) (a : Activity) → is_given_up t s ≡ false → IsPatient (t + 1) (follows a t (net_unlinked 1 (call_of r ch o s) t end)).standing
+patient_still : (t end r ch : ℕ) (o : NetOrigin) (s : NetState) (a : Activity) → is_given_up t s ≡ false → IsPatient (t + 1) (follows a t (net_unlinked Three 1 (call_of r ch o s) t end)).standing
 patient_still t end r ch o (DisconnectIndication cause due) a w = refl
 patient_still t end r ch o (ReleaseRequest again cause due) a w = refl
-patient_still t end r ch o (IncomingCallProceeding due) a w = by_patient (nat_le end t) a t (t + 1) _ _ refl (put_off due t w)
-patient_still t end r ch o (CallReceived due) a w = by_patient (nat_le end t) a t (t + 1) _ _ refl (put_off due t w)
 patient_still t end r ch o s a w = by_patient (nat_le end t) a t (t + 1) _ _ refl refl
 
 patient_waits : (t : ℕ) (e : Entry) → IsPatient (t + 1) (waits e t false false).standing
 patient_waits t e = by_cases (offers e t false) _ _ (λ (m : Moved). IsPatient (t + 1) m.standing) (λ _. refl) (λ _. by_cases (nat_le e.booking.end t) _ _ (λ (m : Moved). IsPatient (t + 1) m.standing) (λ _. tt) (λ _. tt))
 
-patient_unlinked : (t : ℕ) (e : Entry) (s : Standing) → IsPatient t s → IsPatient (t + 1) (unlinked_at e t s).standing
+patient_unlinked : (t : ℕ) (e : Entry) (s : Standing) → IsPatient t s → IsPatient (t + 1) (unlinked_at Three e t s).standing
 patient_unlinked t e (OnCall c a) w = patient_still t e.booking.end c.reference c.channel c.origin c.state a w
 patient_unlinked t e Unoffered w = patient_waits t e
 patient_unlinked t e s w = tt
@@ -227,19 +222,19 @@ module _ (rows : List Row) (assigned : List (Option ℕ)) (i cleared offered end
 
   -- ---- a second without one
 
-  ring_unlinked : (d : Day) → d.moment < 300000 → Rings rows assigned i cleared offered d → (cleared ≢ d.moment + 1) → (offered ≢ d.moment + 1) → Rings rows assigned i cleared offered (passed_in Down d).day
+  ring_unlinked : (d : Day) → d.moment < 300000 → Rings rows assigned i cleared offered d → (cleared ≢ d.moment + 1) → (offered ≢ d.moment + 1) → Rings rows assigned i cleared offered (passed_in (Down Three) d).day
   ring_unlinked d early s nc nf =
       let e = entry_at d.entries i in
       let n = d.moment + 1 in
       let book : e.booking ≡ row_at rows i = (s.calm.fits.framed.0 i b.inside).booking in
-      let here = after_standing Down d i in
-      let goes : n < End → is_going e.standing ≡ true → is_going (standing_at (passed_in Down d).day i) ≡ true =
+      let here = after_standing (Down Three) d i in
+      let goes : n < End → is_going e.standing ≡ true → is_going (standing_at (passed_in (Down Three) d).day i) ≡ true =
       λ less g. subst (λ x. is_going x ≡ true) (sym here) (going_unlinked n e e.standing g (subst (λ (r : Row). n < r.end) (sym book) less)) in
       record {
         calm = calm_unlinked rows assigned d early s.calm;
         patient = subst (IsPatient (n + 1)) (sym here) (patient_unlinked n e e.standing s.patient);
         early = λ less. elim (s.early (omega (arith, less))) [
-          | inl waits ↦ inl (here ∙ ap (λ x. (unlinked_at e n x).standing) waits ∙ waits_stays n e false false (offers_none e n) (subst (λ (r : Row). n < r.end) (sym book) (omega (arith, less, b.late))))
+          | inl waits ↦ inl (here ∙ ap (λ x. (unlinked_at Three e n x).standing) waits ∙ waits_stays n e false false (offers_none e n) (subst (λ (r : Row). n < r.end) (sym book) (omega (arith, less, b.late))))
           | inr g ↦ inr (goes (omega (arith, less, b.late)) g)
         ];
         free = λ low less held. goes (omega (arith, less, b.late)) (s.free (below cleared d.moment low nc) (omega (arith, less)) (down_held d (channel_at assigned i) held));
@@ -273,8 +268,8 @@ module _ (rows : List Row) (assigned : List (Option ℕ)) (i cleared offered end
       }
   ring_run (suc k) (Unlinked ∷ ss) d s ok few size dc do_ =
       let early : d.moment < 300000 = omega (arith, few) in
-      let is : without_link d ≡ (passed_in Down d).day = without_is d early in
-      let rest = ring_run k ss (passed_in Down d).day (ring_unlinked d early s (not_due ss d.moment cleared dc) (not_due ss d.moment offered do_)) (subst (AreInTime ss) is ok) (omega (arith, few)) (omega (arith, size)) (due_after Unlinked ss d.moment cleared dc) (due_after Unlinked ss d.moment offered do_) in
+      let is : without_link d ≡ (passed_in (Down Three) d).day = without_is d early in
+      let rest = ring_run k ss (passed_in (Down Three) d).day (ring_unlinked d early s (not_due ss d.moment cleared dc) (not_due ss d.moment offered do_)) (subst (AreInTime ss) is ok) (omega (arith, few)) (omega (arith, size)) (due_after Unlinked ss d.moment cleared dc) (due_after Unlinked ss d.moment offered do_) in
       record {
         moment = subst (λ (x : Day). (seconds_after (take k ss) x).moment ≡ d.moment + suc k) (sym is) (let same = rest.moment in omega (arith, same));
         rings = subst (λ (x : Day). Rings rows assigned i cleared offered (seconds_after (take k ss) x)) (sym is) rest.rings;

@@ -1,4 +1,5 @@
 -- A far end that clears by its messages, and connects each call within its seconds, answers each within them.
+use Rattle.bx_events.specs.declared.rules.Rules.TheVariants.{Three}
 use Rattle.std.proofs.Common.{◌≡◌, ℕ, zero, suc, ◌+◌, ◌≤◌, ◌<◌, Bool, true, false, List, [], ◌∷◌, length, take, Option, arith, refl, sym, subst, ap, ◌∙◌, inl, inr, if◌then◌else◌, slice_index_or}
 use Rattle.std.proofs.lemmas.Bool.{false≢true, eq-eqb}
 use Rattle.bx_base.specs.Bookings.{Row, AreBookings, Carries}
@@ -63,8 +64,8 @@ turn_at rows assigned (suc k) (Linked r ∷ ss) d received h ok few is =
     }
 turn_at rows assigned (suc k) (Unlinked ∷ ss) d received h ok few is =
     let early : d.moment < 300000 = omega (arith, few) in
-    let same : without_link d ≡ (passed_in Down d).day = without_is d early in
-    let rest = turn_at rows assigned k ss (passed_in Down d).day received (unlinked_between rows assigned d early h) (subst (ClearsAll ss) same ok) (omega (arith, few)) is in
+    let same : without_link d ≡ (passed_in (Down Three) d).day = without_is d early in
+    let rest = turn_at rows assigned k ss (passed_in (Down Three) d).day received (unlinked_between rows assigned d early h) (subst (ClearsAll ss) same ok) (omega (arith, few)) is in
     record {
       between = subst (λ x. IsBetween rows assigned (seconds_after (take k ss) x)) (sym same) rest.between;
       early = subst (λ x. (seconds_after (take k ss) x).moment < 300000) (sym same) rest.early;

@@ -1,4 +1,5 @@
 -- Calls that are up on days of both ends over a link that is lost: each goes on to the end of its booking, whatever is lost.
+use Rattle.bx_events.specs.declared.rules.Rules.TheVariants.{Three}
 use Rattle.std.proofs.Common.{◌≡◌, inl, inr, ℕ, zero, suc, ◌+◌, ◌≤◌, ◌<◌, Bool, true, false, List, ◌++◌, length, length-append, map, max, replicate, Option, Some, None, refl, sym, ap, subst, ◌∙◌, arith}
 use Rattle.std.proofs.Math.Nat.{le-max_left, le-max_right}
 use Rattle.std.proofs.lemmas.Bool.{cases_lt}
@@ -231,13 +232,13 @@ module _ (rows : List Row) (assigned : List (Option ℕ)) (i u : ℕ) (inside : 
       let n = d.moment + 1 in
       let soon : d.moment < 300000 = (let at = h.moment in omega (arith, at, early)) in
       let book : x.booking ≡ row_at rows i = (h.fits.framed.0 i inside).booking in
-      let here : (P : Standing → Type 0) → P (unlinked_at x n x.standing).standing → P (standing_at (passed_in Down d).day i) = λ P p. subst P (sym (after_standing Down d i)) p in
+      let here : (P : Standing → Type 0) → P (unlinked_at Three x n x.standing).standing → P (standing_at (passed_in (Down Three) d).day i) = λ P p. subst P (sym (after_standing (Down Three) d i)) p in
       subst (Through i u End) (sym (without_is d soon)) (record {
         up = λ less. here (IsUp u) (up_unlinked u n x x.standing (way.up (omega (arith, less))) (subst (λ (r : Row). n < r.end) (sym book) less));
         over = λ past. elim (cases_lt d.moment End) [
           | inl less ↦ (let is : n ≡ End = omega (arith, less, past) in
-              here (IsOver u End) (subst (λ (r : Row). IsOver u r.end (unlinked_at x n x.standing).standing) book (end_unlinked u n x x.standing (way.up less) (is ∙ ap (λ (r : Row). r.end) (sym book)))))
-          | inr late ↦ here (IsOver u End) (subst (λ (r : Row). IsOver u r.end (unlinked_at x n x.standing).standing) book (over_unlinked u n x x.standing (subst (λ (r : Row). IsOver u r.end x.standing) (sym book) (way.over late))))
+              here (IsOver u End) (subst (λ (r : Row). IsOver u r.end (unlinked_at Three x n x.standing).standing) book (end_unlinked u n x x.standing (way.up less) (is ∙ ap (λ (r : Row). r.end) (sym book)))))
+          | inr late ↦ here (IsOver u End) (subst (λ (r : Row). IsOver u r.end (unlinked_at Three x n x.standing).standing) book (over_unlinked u n x x.standing (subst (λ (r : Row). IsOver u r.end x.standing) (sym book) (way.over late))))
         ];
       })
 

@@ -1,6 +1,6 @@
 -- A second of a day in which the far end answers: what it leaves of one outward booking, and of its channel.
-use Rattle.bx_calls.specs.declared.rules.Rules.{Rules}
-use Rattle.bx_calls.specs.declared.rules.Rules.TheVariants.{Three}
+use Rattle.bx_events.specs.declared.rules.Rules.{Rules}
+use Rattle.bx_events.specs.declared.rules.Rules.TheVariants.{Three}
 use Rattle.std.proofs.Common.{◌≡◌, ℕ, zero, suc, ◌≤◌, ◌<◌, ◌==◌, ◌&&◌, ◌||◌, not, Bool, true, false, List, [], ◌∷◌, length, Option, Some, None, arith, refl, sym, subst, ap, ◌∙◌, slice_set, slice_index_or, nat_le, nat_lt, inl, inr, if◌then◌else◌}
 use Rattle.std.specs.List.{position}
 use Rattle.std.proofs.lemmas.Bool.{false≢true, true≢false, and_parts, and_from, le-leb, lt-ltb, or_cases}

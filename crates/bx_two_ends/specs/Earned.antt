@@ -1,4 +1,5 @@
 -- What the laws of what is earned say.
+use Rattle.bx_events.specs.declared.rules.Rules.TheVariants.{Three}
 use Rattle.std.specs.Prelude.{◌≡◌, ◌≤◌, ◌+◌, ◌++◌, ℕ, Bool, true, false, List, length, map, Option, Some}
 use Rattle.bx_base.specs.Bookings.{Row, row_at, AreBookings, Carries, pay_of}
 use Rattle.bx_base.specs.Channels.{IsChannelSet}
@@ -28,7 +29,7 @@ abbrev pub IsGivenUpInVain : Type 0
 IsGivenUpInVain =
     (call : PlainNetCall) (t end : ℕ) →
     is_active call.state ≡ true →
-    is_call_up (call_after 9 t end (net_unlinked 1 call t end).next) ≡ false
+    is_call_up (call_after 9 t end (net_unlinked Three 1 call t end).next) ≡ false
 
 -- where the far end reports a call state that does not fit N10, the call that is asked for is given up at once
 abbrev pub IsGivenUpAsReported : Type 0

@@ -1,5 +1,6 @@
 -- What is planned is earned: a day second by second, a far end that answers, and the seconds with a link that an outward
 -- booking needs.
+use Rattle.bx_events.specs.declared.rules.Rules.TheVariants.{Three}
 use Rattle.std.specs.Prelude.{◌≡◌, ◌≢◌, ℕ, ◌+◌, ◌==◌, ◌≤◌, ◌<◌, not, Bool, true, false, List, [], ◌∷◌, map, take, length, Option, ◌⊎◌, if◌then◌else◌}
 use Rattle.std.specs.List.{flat_map}
 use Rattle.bx_calls.specs.NetTable.{net_is_clearing}
@@ -32,7 +33,7 @@ pub data LiveSecond : Type 0 where
 
 abbrev pub events_in : LiveSecond → List LiveEvent
 events_in (Linked received) = OnLink Tick ∷ map (λ octets. OnLink (Receive octets)) received
-events_in Unlinked = WithoutLink ∷ []
+events_in Unlinked = WithoutLink Three ∷ []
 
 abbrev pub events_of : List LiveSecond → List LiveEvent
 events_of seconds = flat_map events_in seconds

@@ -1,6 +1,6 @@
 use Rattle.bx_q931.specs.Messages.{PlainMessage}
 use Rattle.bx_calls.specs.Said.{said_under}
-use Rattle.bx_calls.specs.declared.rules.Rules.{Rules}
+use Rattle.bx_events.specs.declared.rules.Rules.{Rules}
 use Rattle.bx_day.specs.Receipts.{names}
 use Rattle.bx_day.proofs.SlotLemmas.{IsFirstBelow}
 use Rattle.bx_day.proofs.exchange.Exchange.named.Given as goal

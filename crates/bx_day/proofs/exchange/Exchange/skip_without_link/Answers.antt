@@ -17,8 +17,8 @@ first_waiting-self-inside-requires-clause-seated c =
     let d = day_of x.moment x.unlinked x.entries.items x.maintenance in
     let h = c.self.invariant.exchange in
     let at = c.moment-before.ensures.value ∙ ap (λ (d : Day). d.moment) (sym c.self.view_is) in
-    let is = skip_day c.args.seconds c.min-seconds.result c.moment-before.result x.entries.len _ d c.deref_mut.result.now c.outlast.new.entries refl at c.min-seconds.ensures h c.deref_mut.ensures.value x.entries.ok.0 c.outlast.ensures in
-    subst (AllByRecursion Seated) (sym (c.deref.ensures.value ∙ ap (λ (d : Day). d.entries) is)) (outlasted_exchange c.args.seconds d h).seated
+    let is = skip_day c.args.rules c.args.seconds c.min-seconds.result c.moment-before.result x.entries.len _ d c.deref_mut.result.now c.outlast.new.entries refl at c.min-seconds.ensures h c.deref_mut.ensures.value x.entries.ok.0 c.outlast.ensures in
+    subst (AllByRecursion Seated) (sym (c.deref.ensures.value ∙ ap (λ (d : Day). d.entries) is)) (outlasted_exchange c.args.rules c.args.seconds d h).seated
 
 pub invariant_of-self : goal.invariant_of-self
 invariant_of-self c =
@@ -26,8 +26,8 @@ invariant_of-self c =
     let d = day_of x.moment x.unlinked x.entries.items x.maintenance in
     let h = c.self.invariant.exchange in
     let at = c.moment-before.ensures.value ∙ ap (λ (d : Day). d.moment) (sym c.self.view_is) in
-    let is = skip_day c.args.seconds c.min-seconds.result c.moment-before.result x.entries.len c.unlinked_for-self-inside.result d c.deref_mut.result.now c.outlast.new.entries c.unlinked_for-self-inside.ensures at c.min-seconds.ensures h c.deref_mut.ensures.value x.entries.ok.0 c.outlast.ensures in
-    skip_index c.args.seconds d _ x.live x.waiting x.following.items c.first_waiting-self-inside.result h is c.self.invariant.slots
+    let is = skip_day c.args.rules c.args.seconds c.min-seconds.result c.moment-before.result x.entries.len c.unlinked_for-self-inside.result d c.deref_mut.result.now c.outlast.new.entries c.unlinked_for-self-inside.ensures at c.min-seconds.ensures h c.deref_mut.ensures.value x.entries.ok.0 c.outlast.ensures in
+    skip_index c.args.rules c.args.seconds d _ x.live x.waiting x.following.items c.first_waiting-self-inside.result h is c.self.invariant.slots
     (subst (λ (es : List Entry). AreEarliest es (length es) c.first_waiting-self-inside.result) c.deref.ensures.value c.first_waiting-self-inside.ensures)
 
 pub returns : goal.returns
@@ -36,5 +36,5 @@ returns c =
     let d = day_of x.moment x.unlinked x.entries.items x.maintenance in
     let h = c.self.invariant.exchange in
     let at = c.moment-before.ensures.value ∙ ap (λ (d : Day). d.moment) (sym c.self.view_is) in
-    skip_day c.args.seconds c.min-seconds.result c.moment-before.result x.entries.len c.unlinked_for-self-inside.result d c.deref_mut.result.now c.outlast.new.entries c.unlinked_for-self-inside.ensures at c.min-seconds.ensures h c.deref_mut.ensures.value x.entries.ok.0 c.outlast.ensures
-    ∙ skipped c.args.seconds d h ∙ ap (live_day_after (replicate c.args.seconds WithoutLink)) c.self.view_is
+    skip_day c.args.rules c.args.seconds c.min-seconds.result c.moment-before.result x.entries.len c.unlinked_for-self-inside.result d c.deref_mut.result.now c.outlast.new.entries c.unlinked_for-self-inside.ensures at c.min-seconds.ensures h c.deref_mut.ensures.value x.entries.ok.0 c.outlast.ensures
+    ∙ skipped c.args.rules c.args.seconds d h ∙ ap (live_day_after (replicate c.args.seconds (WithoutLink c.args.rules))) c.self.view_is
