@@ -1,4 +1,5 @@
 -- What a file has of the events that were followed, and what is told of it.
+use Rattle.bx_events.specs.declared.rules.Rules.{Rules}
 use Rattle.std.proofs.Common.{◌≡◌, ℕ, Bool, true, is_some, List, [], ◌∷◌, ◌++◌, Option, Some, None, Result, Ok, Err, OnOk, refl, sym, ap, ◌∙◌, ◌+◌, subst}
 use Rattle.std.specs.List.{flat_map}
 use Rattle.std.proofs.lemmas.List.{append-nil}
@@ -30,6 +31,7 @@ use Rattle.bx_day.specs.Day.{Day}
 use Rattle.bx_day.specs.Course.{exchange_next, exchange_sent}
 use Rattle.bx_day.specs.Outages.{live_happens}
 use Rattle.bx_planfile.specs.OneBooking.{row_on}
+use Rattle.bx_sales.specs.Tags.{row_behind}
 use Rattle.bx_sales.specs.Selling.{IsSold}
 use Rattle.bx_day_openings.specs.Going.{IsStopped, GoesFrom}
 use Rattle.bx_day_openings.specs.Sales.{IsBadSale}
@@ -77,10 +79,10 @@ module _ {W : Type 0} (contents : W → Option (List ℕ)) (cs cs' : List Bool) 
   by_rules_two came none still p =
       went (HeardByRulesTwo came ∷ []) none still (record { stays = p.stays; octets = live_packets_for a.first a.day (HeardByRulesTwo came) ++ []; through = ([], refl, (p.day, refl)); kept = p.kept })
 
-  pub without_link : s ≡ None → s' ≡ s → b.day ≡ (live_happens a.day WithoutLink).day → b.file ≡ a.file → b.first ≡ a.first → IsRecaptured contents cs cs' s s' a (WithoutLink ∷ []) b
-  without_link none still day file first = went (WithoutLink ∷ []) none still (record { stays = first; octets = []; through = (day, refl); kept = subst (λ (f : Option (Watched W)). Keeps contents a.file f []) (sym file) (keeps_nil contents a.file) })
+  pub without_link : (rules : Rules) → s ≡ None → s' ≡ s → b.day ≡ (live_happens a.day (WithoutLink rules)).day → b.file ≡ a.file → b.first ≡ a.first → IsRecaptured contents cs cs' s s' a (WithoutLink rules ∷ []) b
+  without_link rules none still day file first = went (WithoutLink rules ∷ []) none still (record { stays = first; octets = []; through = (day, refl); kept = subst (λ (f : Option (Watched W)). Keeps contents a.file f []) (sym file) (keeps_nil contents a.file) })
 
-  pub sold_again : (line : List ℕ) → s ≡ None → s' ≡ s → IsSold cs (row_on line) a.day b.day → b.file ≡ a.file → b.first ≡ a.first → IsRecaptured contents cs cs' s s' a (Sold line ∷ []) b
+  pub sold_again : (line : List ℕ) → s ≡ None → s' ≡ s → IsSold cs (row_behind row_on line) a.day b.day → b.file ≡ a.file → b.first ≡ a.first → IsRecaptured contents cs cs' s s' a (Sold line ∷ []) b
   sold_again line none still is file first =
       went (Sold line ∷ []) none still (record { stays = first; octets = []; through = (b.day, is, (refl, refl)); kept = subst (λ (f : Option (Watched W)). Keeps contents a.file f []) (sym file) (keeps_nil contents a.file) })
 
@@ -102,7 +104,7 @@ through_of channels first [] d d1 octets h = h.0
 through_of channels first (Sold line ∷ events) d d1 octets (sold, is, rest) = (sold, is, through_of channels first events sold d1 octets rest)
 through_of channels first (OnLink event ∷ events) d d1 octets (more, are, rest) = through_of channels first events (live_happens d (OnLink event)).day d1 more rest
 through_of channels first (HeardByRulesTwo came ∷ events) d d1 octets (more, are, rest) = through_of channels first events (live_happens d (HeardByRulesTwo came)).day d1 more rest
-through_of channels first (WithoutLink ∷ events) d d1 octets rest = through_of channels first events (live_happens d WithoutLink).day d1 octets rest
+through_of channels first (WithoutLink rules ∷ events) d d1 octets rest = through_of channels first events (live_happens d (WithoutLink rules)).day d1 octets rest
 
 -- from the day and the file as they were at the beginning
 module _ {W : Type 0} (contents : W → Option (List ℕ)) (channels cs cs' : List Bool) (s s' : Option SaleFault) (a b : Taken W) (first : ℕ) (file : Option (Watched W)) (opened : Day) (on_channels : cs ≡ channels) (fresh : s ≡ None) (opens : a ≡ taken_of opened file first) (events : List LiveEvent) (h : IsRecaptured contents cs cs' s s' a events b) where

@@ -36,4 +36,4 @@ unsold_day channels first (OnLink event ∷ events) d d1 octets none (more, are,
 unsold_day channels first (HeardByRulesTwo came ∷ events) d d1 octets none (more, are, rest) =
     let later = unsold_day channels first events (live_happens d (HeardByRulesTwo came)).day d1 more none rest in
     (later.0, are ∙ more_packets (live_packets_for first d (HeardByRulesTwo came)) (live_packets first events (live_happens d (HeardByRulesTwo came)).day) more later.1)
-unsold_day channels first (WithoutLink ∷ events) d d1 octets none rest = unsold_day channels first events (live_happens d WithoutLink).day d1 octets none rest
+unsold_day channels first (WithoutLink rules ∷ events) d d1 octets none rest = unsold_day channels first events (live_happens d (WithoutLink rules)).day d1 octets none rest

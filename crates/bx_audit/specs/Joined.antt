@@ -18,7 +18,7 @@ captures_more channels first (OnLink event ∷ xs) ys a b c os ps (later, are, r
     (later ++ ps, ap (λ (l : List ℕ). l ++ ps) are ∙ append_assoc (live_packets_for first a (OnLink event)) later ps, captures_more channels first xs ys (live_happens a (OnLink event)).day b c later ps rest more)
 captures_more channels first (HeardByRulesTwo came ∷ xs) ys a b c os ps (later, are, rest) more =
     (later ++ ps, ap (λ (l : List ℕ). l ++ ps) are ∙ append_assoc (live_packets_for first a (HeardByRulesTwo came)) later ps, captures_more channels first xs ys (live_happens a (HeardByRulesTwo came)).day b c later ps rest more)
-captures_more channels first (WithoutLink ∷ xs) ys a b c os ps rest more = captures_more channels first xs ys (live_happens a WithoutLink).day b c os ps rest more
+captures_more channels first (WithoutLink rules ∷ xs) ys a b c os ps rest more = captures_more channels first xs ys (live_happens a (WithoutLink rules)).day b c os ps rest more
 
 module _ {W : Type 0} (contents : W → Option (List ℕ)) where
   nothing_taken : (channels : List Bool) (a : Taken W) → IsTaken contents channels a [] a

@@ -18,7 +18,7 @@ abbrev pub outages_from : ℕ → List LiveEvent → List Outage → List Outage
 outages_from m [] outages = outages
 outages_from m (OnLink Tick ∷ events) outages = outages_from (next_moment m) events outages
 outages_from m (OnLink (Receive octets) ∷ events) outages = outages_from m events outages
-outages_from m (WithoutLink ∷ events) outages = outages_from (next_moment m) events (noted_at m outages)
+outages_from m (WithoutLink rules ∷ events) outages = outages_from (next_moment m) events (noted_at m outages)
 outages_from m (Sold line ∷ events) outages = outages_from m events outages
 outages_from m (HeardByRulesTwo octets ∷ events) outages = outages_from m events outages
 

@@ -13,7 +13,7 @@ outages_more : (m : ℕ) (xs ys : List LiveEvent) (os : List Outage) → outages
 outages_more m [] ys os = refl
 outages_more m (OnLink Tick ∷ xs) ys os = outages_more (next_moment m) xs ys os
 outages_more m (OnLink (Receive octets) ∷ xs) ys os = outages_more m xs ys os
-outages_more m (WithoutLink ∷ xs) ys os = outages_more (next_moment m) xs ys (noted_at m os)
+outages_more m (WithoutLink rules ∷ xs) ys os = outages_more (next_moment m) xs ys (noted_at m os)
 outages_more m (Sold line ∷ xs) ys os = outages_more m xs ys os
 outages_more m (HeardByRulesTwo octets ∷ xs) ys os = outages_more m xs ys os
 
@@ -21,7 +21,7 @@ moment_more : (m : ℕ) (xs ys : List LiveEvent) → moment_after m (xs ++ ys) �
 moment_more m [] ys = refl
 moment_more m (OnLink Tick ∷ xs) ys = moment_more (next_moment m) xs ys
 moment_more m (OnLink (Receive octets) ∷ xs) ys = moment_more m xs ys
-moment_more m (WithoutLink ∷ xs) ys = moment_more (next_moment m) xs ys
+moment_more m (WithoutLink rules ∷ xs) ys = moment_more (next_moment m) xs ys
 moment_more m (Sold line ∷ xs) ys = moment_more m xs ys
 moment_more m (HeardByRulesTwo octets ∷ xs) ys = moment_more m xs ys
 

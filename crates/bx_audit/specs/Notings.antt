@@ -9,7 +9,7 @@ abbrev pub moment_after : ℕ → List LiveEvent → ℕ
 moment_after m [] = m
 moment_after m (OnLink Tick ∷ events) = moment_after (next_moment m) events
 moment_after m (OnLink (Receive octets) ∷ events) = moment_after m events
-moment_after m (WithoutLink ∷ events) = moment_after (next_moment m) events
+moment_after m (WithoutLink rules ∷ events) = moment_after (next_moment m) events
 moment_after m (Sold line ∷ events) = moment_after m events
 moment_after m (HeardByRulesTwo octets ∷ events) = moment_after m events
 

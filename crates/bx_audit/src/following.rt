@@ -69,7 +69,7 @@ impl<W: Write> Recaptured<W> {
         match event {
             LoggedEvent::Tick => pass_second(&mut self.captured),
             LoggedEvent::Heard(octets) => hear_one(&mut self.captured, octets),
-            LoggedEvent::Down => self.captured.end.second_without_link(),
+            LoggedEvent::Down(rules) => self.captured.end.second_without_link(*rules),
             LoggedEvent::Sold(line) => self.take(line),
             LoggedEvent::HeardByRulesTwo(octets) => hear_by_rules_two(&mut self.captured, octets),
         }

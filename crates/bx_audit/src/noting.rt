@@ -55,7 +55,7 @@ impl Noting {
     {
         match event {
             LoggedEvent::Tick => self.pass(),
-            LoggedEvent::Down => {
+            LoggedEvent::Down(_) => {
                 self.note();
                 self.pass();
             }

@@ -1,14 +1,16 @@
 -- Events and sales one after another.
-use Rattle.std.specs.Prelude.{Bool, List, [], ◌∷◌, ◌++◌, Option, Some, None}
-use Rattle.std.proofs.Common.{refl, sym, ap, ◌∙◌, subst, append_assoc}
+use Rattle.std.specs.Prelude.{◌≡◌, Bool, List, [], ◌∷◌, ◌++◌, Option, Some, None}
+use Rattle.std.proofs.Common.{refl, sym, ap, ◌∙◌, subst, append_assoc, append-nil}
 use Rattle.bx_day.specs.Day.{Day}
-use Rattle.bx_events.specs.Events.{LiveEvent, Sold}
+use Rattle.bx_events.specs.Events.{LiveEvent, OnLink, WithoutLink, Sold, HeardByRulesTwo}
+use Rattle.bx_sales.specs.Tags.{tag_of}
+use Rattle.bx_sales.specs.declared.tag.Tag.{Tag}
 use Rattle.bx_planfile.specs.OneBooking.{row_on}
 use Rattle.bx_sales.proofs.Journal.{through_more}
 use Rattle.bx_day_openings.specs.declared.reselling.SaleFault.{SaleFault}
 use Rattle.bx_day_openings.specs.declared.selling.Selling.{Selling}
 use Rattle.bx_day_openings.specs.Going.{IsStopped, Goes, GoesFrom}
-use Rattle.bx_day_openings.specs.Selling.{day_goes, IsAfter}
+use Rattle.bx_day_openings.specs.Selling.{day_goes, tags_in, IsAfter}
 
 module _ {S : Type 0} (goes : S → List LiveEvent → S → Type 0) (day : S → Day) (channels : List Bool) where
   pub goes_nothing : ((s : S) → goes s [] s) → (sale : Option SaleFault) (s : S) → GoesFrom goes day channels sale s [] s sale
@@ -41,9 +43,25 @@ module _ {S : Type 0} (goes : S → List LiveEvent → S → Type 0) (day : S �
       then_stopped (on, again) = (on ∙ same, again)
 
 pub after_nothing : (a : Selling) → IsAfter a [] a
-after_nothing a = (refl, goes_nothing (day_goes a.channels) (λ (d : Day). d) a.channels (λ d. refl) a.sale a.exchange)
+after_nothing a = (refl, goes_nothing (day_goes a.channels) (λ (d : Day). d) a.channels (λ d. refl) a.sale a.exchange, λ whole. sym (append-nil a.tags.items))
+
+tags_more : (xs ys : List LiveEvent) → tags_in (xs ++ ys) ≡ tags_in xs ++ tags_in ys
+tags_more [] ys = refl
+tags_more (Sold line ∷ xs) ys = ap (λ (tags : List (Option Tag)). tag_of line ∷ tags) (tags_more xs ys)
+tags_more (OnLink event ∷ xs) ys = tags_more xs ys
+tags_more (WithoutLink rules ∷ xs) ys = tags_more xs ys
+tags_more (HeardByRulesTwo octets ∷ xs) ys = tags_more xs ys
+
+-- where all was right at the end, it was before
+was_right : (b c : Option SaleFault) (goes : Day → List LiveEvent → Day → Type 0) (channels : List Bool) (d e : Day) (events : List LiveEvent) → GoesFrom goes (λ (x : Day). x) channels b d events e c → c ≡ None → b ≡ None
+was_right None c goes channels d e events on whole = refl
+was_right (Some fault) c goes channels d e events (same, still) whole = let e = sym still ∙ whole in cc
 
 pub after_more : (a b c : Selling) (xs ys : List LiveEvent) → IsAfter a xs b → IsAfter b ys c → IsAfter a (xs ++ ys) c
-after_more a b c xs ys (same, p) (again, q) =
-    let on = subst (λ (cs : List Bool). GoesFrom (day_goes cs) (λ (d : Day). d) cs b.sale b.exchange ys c.exchange c.sale) same q in
-    (again ∙ same, goes_more (day_goes a.channels) (λ (d : Day). d) a.channels (λ d e f us vs p q. through_more a.channels row_on us vs d e f p q) a.exchange b.exchange c.exchange xs ys a.sale b.sale c.sale p on)
+after_more a b c xs ys (same, p, tags) (again, q, tags') =
+    let on = subst (λ (cs : List Bool). GoesFrom (day_goes cs) (λ (d : Day). d) cs b.sale b.exchange ys c.exchange c.sale) same q in (
+      again ∙ same,
+      goes_more (day_goes a.channels) (λ (d : Day). d) a.channels (λ d e f us vs p q. through_more a.channels row_on us vs d e f p q) a.exchange b.exchange c.exchange xs ys a.sale b.sale c.sale p on,
+      λ whole. tags' whole ∙ ap (λ (ts : List (Option Tag)). ts ++ tags_in ys) (tags (was_right b.sale c.sale (day_goes b.channels) b.channels b.exchange c.exchange ys q whole))
+          ∙ append_assoc a.tags.items (tags_in xs) (tags_in ys) ∙ ap (λ (ts : List (Option Tag)). a.tags.items ++ ts) (sym (tags_more xs ys)),
+    )

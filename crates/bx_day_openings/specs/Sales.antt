@@ -8,6 +8,7 @@ use Rattle.bx_day.specs.Extended.{IsExtendedBy}
 use Rattle.bx_events.specs.Events.{LiveEvent, Sold}
 use Rattle.bx_planfile.specs.OneBooking.{booking_on}
 use Rattle.bx_sales.specs.Selling.{rows_with, marks_with}
+use Rattle.bx_sales.specs.Tags.{behind_tag}
 use Rattle.bx_day_openings.specs.declared.reselling.SaleFault.{SaleFault}
 use Rattle.bx_day_openings.specs.declared.reselling.SaleFault.TheVariants.{BadSale, LateSale, TooMany, NotCarried, OtherChannels, Memory}
 
@@ -29,9 +30,9 @@ IsNoSale channels row d Memory = Unit {0}
 
 -- why this line is no sale of this day: it tells no booking, or one that is not sold
 abbrev pub IsBadSale : List Bool → List ℕ → Day → SaleFault → Type 0
-IsBadSale channels line d BadSale = booking_on line ≡ None
-IsBadSale channels line d LateSale = (row : Row) × (booking_on line ≡ Some row) × IsNoSale channels row d LateSale
-IsBadSale channels line d TooMany = (row : Row) × (booking_on line ≡ Some row) × IsNoSale channels row d TooMany
-IsBadSale channels line d NotCarried = (row : Row) × (booking_on line ≡ Some row) × IsNoSale channels row d NotCarried
-IsBadSale channels line d OtherChannels = (row : Row) × (booking_on line ≡ Some row) × IsNoSale channels row d OtherChannels
+IsBadSale channels line d BadSale = booking_on (behind_tag line) ≡ None
+IsBadSale channels line d LateSale = (row : Row) × (booking_on (behind_tag line) ≡ Some row) × IsNoSale channels row d LateSale
+IsBadSale channels line d TooMany = (row : Row) × (booking_on (behind_tag line) ≡ Some row) × IsNoSale channels row d TooMany
+IsBadSale channels line d NotCarried = (row : Row) × (booking_on (behind_tag line) ≡ Some row) × IsNoSale channels row d NotCarried
+IsBadSale channels line d OtherChannels = (row : Row) × (booking_on (behind_tag line) ≡ Some row) × IsNoSale channels row d OtherChannels
 IsBadSale channels line d Memory = Unit {0}

@@ -1,6 +1,6 @@
 //! A day that has gone through its journal, and how long it goes on.
 
-ghost use Rattle.std.specs.Prelude.{◌≡◌, ◌≤◌, ◌+◌, not, length, if◌then◌else◌, IfOk, IfErr};
+ghost use Rattle.std.specs.Prelude.{◌≡◌, ◌≤◌, ◌+◌, [], not, length, if◌then◌else◌, IfOk, IfErr};
 ghost use Rattle.bx_base.specs.declared.booking.TheConstants.{MAX_MOMENT};
 ghost use Rattle.bx_calls.specs.Timers.{clearing_time};
 ghost use Rattle.bx_day.specs.Invariant.{is_refused};
@@ -8,7 +8,7 @@ ghost use Rattle.bx_day_openings.specs.Openings.{IsLastOfDay, AreDayTurns};
 ghost use Rattle.bx_day_openings.specs.Replays.{IsDayThrough, IsNoReplayAsRead};
 ghost use Rattle.bx_devices.specs.Watching.{device_of};
 ghost use Rattle.bx_journal.specs.Follows.{IsFollowedFrom};
-ghost use Rattle.bx_day_openings.specs.Selling.{day_goes};
+ghost use Rattle.bx_day_openings.specs.Selling.{day_goes, tags_go};
 ghost use Rattle.bx_devices.specs.Devices.{reading_of};
 
 use crate::fault::DayCommandFault;
@@ -19,13 +19,15 @@ use bx_base::ChannelSet;
 use bx_day::{Entry, Exchange, Standing};
 use bx_devices::Watched;
 use bx_journal::{JournalFault, Wanted, read_journal};
+use bx_sales::Tag;
 use std::alloc::Global;
 use std::io::Read;
 
-/// An exchange after the events and sales of its journal, and how that was read.
+/// An exchange after the events and sales of its journal, of each sale under which key it was asked for, or none, and how that was read.
 #[derive(Drop)]
 pub struct Replayed {
     pub exchange: Exchange,
+    pub tags: Vec<Option<Tag>>,
     pub whole: Result<u64, JournalFault>,
 }
 
@@ -42,13 +44,18 @@ pub fn replay_journal<'a, R: Read>(
 ) -> Result<Replayed, DayCommandFault<'a>>
     ensures through { IfOk result (λ r. IsDayThrough channels wanted.now (R.remaining (device_of journal.old)) exchange r.exchange) }
     ensures followed { IfOk result (λ r. IsFollowedFrom (day_goes channels) R.remaining journal.old journal.new wanted.now exchange r.exchange r.whole) }
+    ensures tagged { IfOk result (λ r. IsFollowedFrom tags_go R.remaining journal.old journal.new wanted.now [] r.tags.items r.whole) }
     ensures refused { IfErr result (IsNoReplayAsRead name.now wanted.now channels exchange (reading_of R.remaining journal.old journal.new)) }
 {
     let mut selling = Selling::new(alloc, channels, exchange);
     let whole = read_journal(journal, wanted, &mut selling);
-    let exchange = selling.into_exchange()?;
+    let (exchange, tags) = selling.into_sold()?;
     journal_read(name, whole)?;
-    Ok(Replayed { exchange, whole })
+    Ok(Replayed {
+        exchange,
+        tags,
+        whole,
+    })
 }
 
 /// The moment from which on the call of a booking is over: 1 where it is not accepted.

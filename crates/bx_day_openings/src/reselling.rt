@@ -3,12 +3,13 @@
 ghost use Rattle.std.specs.Prelude.{◌≡◌, OnOk, OnErr, IfErr};
 ghost use Rattle.bx_planfile.specs.OneBooking.{row_on};
 ghost use Rattle.bx_sales.specs.Selling.{IsSold};
+ghost use Rattle.bx_sales.specs.Tags.{row_behind};
 ghost use Rattle.bx_day_openings.specs.Sales.{IsNoSale, IsBadSale};
 
 use bx_base::{Booking, ChannelSet};
 use bx_day::Exchange;
 use bx_planfile::booking_on;
-use bx_sales::{NoSale, sell};
+use bx_sales::{NoSale, behind_tag, sell};
 use std::alloc::Global;
 use thiserror::Error;
 
@@ -64,11 +65,11 @@ pub fn resell(
     channels: ChannelSet,
     line: &[u8],
 ) -> Result<(), SaleFault>
-    ensures sold { OnOk result (IsSold channels (row_on line.now) exchange.old exchange.new) }
+    ensures sold { OnOk result (IsSold channels (row_behind row_on line.now) exchange.old exchange.new) }
     ensures kept { OnErr result (exchange.new ≡ exchange.old) }
     ensures refused { IfErr result (IsBadSale channels line.now exchange.old) }
 {
-    match booking_on(line) {
+    match booking_on(behind_tag(line)) {
         Some(booking) => sell_again(alloc, exchange, channels, booking),
         None => Err(SaleFault::BadSale),
     }

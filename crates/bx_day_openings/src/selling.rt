@@ -9,16 +9,19 @@ use crate::reselling::{SaleFault, resell};
 use bx_base::ChannelSet;
 use bx_day::Exchange;
 use bx_journal::{Follower, LoggedEvent};
+use bx_sales::{Tag, tag_of};
 use std::alloc::Global;
 
 /// An exchange to which the events of a journal happen, and which sells again what the journal says was sold, on the channels in
-/// service. What it sends was sent before, so it goes nowhere. From the first sale on that is none it stays as it was there, with why.
+/// service. What it sends was sent before, so it goes nowhere. From the first sale on that is none it stays as it was there, with why. Until
+/// then it keeps of each sale under which key it was asked for, or none.
 #[derive(Drop)]
 pub struct Selling {
     alloc: Global,
     channels: ChannelSet,
     pub exchange: Exchange,
     pub sale: Option<SaleFault>,
+    pub tags: Vec<Option<Tag>>,
 }
 
 impl Selling {
@@ -27,12 +30,14 @@ impl Selling {
         ensures channels { result.channels ≡ channels }
         ensures exchange { result.exchange ≡ exchange }
         ensures sale { result.sale ≡ None }
+        ensures tags { result.tags.items ≡ [] }
     {
         Selling {
             alloc,
             channels,
             exchange,
             sale: None,
+            tags: Vec::new(alloc),
         }
     }
 
@@ -41,9 +46,23 @@ impl Selling {
         ensures whole { IfOk result (λ exchange. (self.sale ≡ None) × (exchange ≡ self.exchange)) }
         ensures stopped { IfErr result (λ fault. self.sale ≡ Some fault) }
     {
-        let Selling { exchange, sale, .. } = self;
+        let (exchange, _tags) = self.into_sold()?;
+        Ok(exchange)
+    }
+
+    /// The same, and of each sale under which key it was asked for.
+    pub(crate) fn into_sold(self) -> Result<(Exchange, Vec<Option<Tag>>), SaleFault>
+        ensures whole { IfOk result (λ sold. (self.sale ≡ None) × (sold.0 ≡ self.exchange) × (sold.1 ≡ self.tags)) }
+        ensures stopped { IfErr result (λ fault. self.sale ≡ Some fault) }
+    {
+        let Selling {
+            exchange,
+            sale,
+            tags,
+            ..
+        } = self;
         match sale {
-            None => Ok(exchange),
+            None => Ok((exchange, tags)),
             Some(fault) => Err(fault),
         }
     }
@@ -52,6 +71,10 @@ impl Selling {
     fn take(&mut self, line: &[u8])
         ensures { self.old.sale ≡ None → IsAfter self.old (Sold line.now ∷ []) self.new }
     {
+        if self.tags.push(tag_of(line)).is_err() {
+            self.sale = Some(SaleFault::Memory);
+            return;
+        }
         if let Err(fault) = resell(self.alloc, &mut self.exchange, self.channels, line) {
             self.sale = Some(fault);
         }
@@ -68,7 +91,7 @@ impl Selling {
             LoggedEvent::Heard(octets) => {
                 let _reply = self.exchange.receive(octets);
             }
-            LoggedEvent::Down => self.exchange.second_without_link(),
+            LoggedEvent::Down(rules) => self.exchange.second_without_link(*rules),
             LoggedEvent::Sold(line) => self.take(line),
             LoggedEvent::HeardByRulesTwo(octets) => {
                 let _reply = self.exchange.receive_by_rules_two(octets);

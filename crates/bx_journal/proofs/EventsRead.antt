@@ -82,7 +82,7 @@ module _ {F : Type 0} (followed : F → List LiveEvent → F → Type 0) (on : (
 short : (v : Version) (e : LiveEvent) → IsEventIn v e → length (line_of e) ≤ 526
 short v (OnLink Tick) is = omega arith
 short v (OnLink (Receive octets)) is = omega (arith, length-append (codes "heard ") (hex_of 65 octets), hex_length 65 octets, is.1.1)
-short v WithoutLink is = omega arith
+short v (WithoutLink rules) is = omega arith
 short v (Sold booking) is = omega (arith, length-append (codes "sold ") booking, is.1.0)
 short v (HeardByRulesTwo octets) is = omega (arith, length-append (codes "heard ") (hex_of 65 octets), hex_length 65 octets, is.1.1)
 

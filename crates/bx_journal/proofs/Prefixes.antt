@@ -1,7 +1,7 @@
 -- One event after another, and what a crash leaves of them; and the head of a journal.
 use Rattle.std.proofs.Common.{◌≡◌, inl, inr, ⊎_elim, ℕ, zero, suc, ◌+◌, ◌≤◌, ◌<◌, List, [], ◌∷◌, ◌++◌, length, take, map, get_or, Some, Result, refl, ap, ◌∙◌, arith}
 use Rattle.std.proofs.lemmas.List.{take_more, get_or-map, length-map}
-use Rattle.bx_events.specs.Events.{LiveEvent, WithoutLink}
+use Rattle.bx_events.specs.Events.{Tick, LiveEvent, OnLink}
 use Rattle.bx_events.specs.declared.event.LiveEvent as rust_live
 use Rattle.bx_events.specs.declared.event.LiveEvent.TheVariants as rust
 use Rattle.bx_events.specs.declared.event.Event.TheVariants as plain
@@ -33,7 +33,7 @@ leaves_then {D} moment left_since old mid new P Q first second so = record {
 -- the events of the code, one more
 pub more_of : (events : List rust_live.LiveEvent) (i : ℕ) → i < length events → take (i + 1) (map live_event_of events) ≡ take i (map live_event_of events) ++ live_event_of (get_or events i (rust.OnLink plain.Tick)) ∷ []
 more_of events i lt =
-    take_more (map live_event_of events) i WithoutLink (omega (arith, length-map events live_event_of)) ∙ ap (λ (e : LiveEvent). take i (map live_event_of events) ++ e ∷ []) (get_or-map live_event_of events i (rust.OnLink plain.Tick) WithoutLink lt)
+    take_more (map live_event_of events) i (OnLink Tick) (omega (arith, length-map events live_event_of)) ∙ ap (λ (e : LiveEvent). take i (map live_event_of events) ++ e ∷ []) (get_or-map live_event_of events i (rust.OnLink plain.Tick) (OnLink Tick) lt)
 
 -- the first lines of a head, or all of them
 module _ (head : Head) (day : IsJournalDay head.day) where

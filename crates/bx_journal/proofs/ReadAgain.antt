@@ -1,4 +1,5 @@
 -- The text of events is read as these events, whatever prefix of a line stands after it.
+use Rattle.bx_events.specs.declared.rules.Rules.TheVariants.{Two, Three}
 use Rattle.std.proofs.Common.{◌≡◌, ◌==◌, ◌≤◌, nat_le, ℕ, ◌+◌, Bool, true, false, cond, arith, Option, drop, List, [], ◌∷◌, ◌++◌, length, map, Some, Result, Ok, refl, ap, sym, ◌∙◌, subst}
 use Rattle.std.specs.List.{flat_map, list_all}
 use Rattle.bx_events.specs.Events.{Tick, Receive, LiveEvent, OnLink, WithoutLink, Sold, HeardByRulesTwo}
@@ -33,7 +34,7 @@ printable_without_lf (octet ∷ octets) h = let p = and_parts (is_printable octe
 pub line_without_lf : (v : Version) (e : LiveEvent) → IsEventIn v e → HasNoLf (line_of e)
 line_without_lf v (OnLink Tick) is = (refl, (refl, (refl, (refl, tt))))
 line_without_lf v (OnLink (Receive octets)) is = (refl, (refl, (refl, (refl, (refl, (refl, hex_without_lf 65 (omega arith) octets))))))
-line_without_lf v WithoutLink is = (refl, (refl, (refl, (refl, tt))))
+line_without_lf v (WithoutLink rules) is = (refl, (refl, (refl, (refl, tt))))
 line_without_lf v (Sold booking) is = (refl, (refl, (refl, (refl, (refl, printable_without_lf booking is.1.1)))))
 line_without_lf v (HeardByRulesTwo octets) is = (refl, (refl, (refl, (refl, (refl, (refl, hex_without_lf 65 (omega arith) octets))))))
 
@@ -55,8 +56,9 @@ pub event_read : (v : Version) (e : LiveEvent) → IsEventIn v e → event_on v 
 event_read v (OnLink Tick) is = refl
 event_read v (OnLink (Receive octets)) is =
     rw (le-leb (length (hex_of 65 octets)) 520 (omega (arith, hex_length 65 octets, is.1.1)), octets_read 65 (omega arith) octets is.0, is.1.0) refl
-event_read v WithoutLink is = refl
-event_read v (Sold booking) is = rw (le-leb (length booking) 120 is.1.0, is.1.1) refl
+event_read v (WithoutLink Two) is = rw (is.1) refl
+event_read v (WithoutLink Three) is = rw (is.1) refl
+event_read v (Sold booking) is = rw (le-leb (length booking) 200 is.1.0, is.1.1) refl
 event_read v (HeardByRulesTwo octets) is =
     rw (le-leb (length (hex_of 65 octets)) 520 (omega (arith, hex_length 65 octets, is.1.1)), octets_read 65 (omega arith) octets is.0, is.1.0) refl
 

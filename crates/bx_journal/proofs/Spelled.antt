@@ -1,4 +1,5 @@
 -- What is read is spelled so.
+use Rattle.bx_events.specs.declared.rules.Rules.TheVariants.{Two, Three}
 use Rattle.std.proofs.Common.{codes, ◌≡◌, ℕ, zero, suc, ◌+◌, ◌-◌, ◌*◌, ◌/◌, ◌%◌, ◌≤◌, ◌<◌, ◌==◌, ◌&&◌, Bool, true, false, cond, leb, nat_le, List, [], ◌∷◌, ◌++◌, length, take, drop, get_or, map, Option, Some, None, Result, Ok, Err, refl, ap, sym, ◌∙◌, subst, arith, length-append, take-append-drop}
 use Rattle.std.specs.Str.{bytes_eq}
 use Rattle.std.specs.List.{flat_map, list_all}
@@ -10,8 +11,8 @@ use Rattle.bx_events.specs.Events.{Tick, Receive, LiveEvent, OnLink, WithoutLink
 use Rattle.bx_journal.specs.declared.fault.JournalFault.{JournalFault}
 use Rattle.bx_journal.specs.declared.version.Version.{Version}
 use Rattle.bx_journal.specs.declared.version.Version.TheVariants.{Undated, Older, Dated}
-use Rattle.bx_journal.specs.Versions.{has_day, head_size, is_older, IsReadWhere}
-use Rattle.bx_journal.specs.Events.{AreOctets, IsEventIn, AreEvents, AreEventsIn, is_printable}
+use Rattle.bx_journal.specs.Versions.{has_day, head_size, is_older, rules_of, IsReadWhere}
+use Rattle.bx_journal.specs.Events.{AreOctets, IsEventIn, FitsVersion, AreEvents, AreEventsIn, is_printable}
 use Rattle.bx_journal.specs.Hex.{hex_digit, hex_of, hex_value, octet_of_digits, octets_of_digits, after_octet}
 use Rattle.bx_journal.specs.Lines.{whole_lines, whole_text, line_ended, onto}
 use Rattle.bx_journal.specs.Inside.{HasNoLf, HaveNoLf, lines_of}
@@ -121,21 +122,25 @@ limited : (v : Version) (few : Bool) (line : List ℕ) (e : LiveEvent) → leb (
 limited v true line e few word some = heard v line (octets_of_digits 65 (drop 6 line)) e (leb-true _ _ few) refl word some
 limited v false line e few word some = absurd cc
 
-sold : (v : Version) (fine : Bool) (line : List ℕ) (e : LiveEvent) → (nat_le (length (drop 5 line)) 120 && list_all is_printable (drop 5 line)) ≡ fine → take 5 line ≡ codes "sold " → cond fine (Some (Sold (drop 5 line))) None ≡ Some e → IsLineOf v line e
+sold : (v : Version) (fine : Bool) (line : List ℕ) (e : LiveEvent) → (nat_le (length (drop 5 line)) 200 && list_all is_printable (drop 5 line)) ≡ fine → take 5 line ≡ codes "sold " → cond fine (Some (Sold (drop 5 line))) None ≡ Some e → IsLineOf v line e
 sold v true line e fine word some =
-    let p = and_parts (nat_le (length (drop 5 line)) 120) (list_all is_printable (drop 5 line)) fine in
+    let p = and_parts (nat_le (length (drop 5 line)) 200) (list_all is_printable (drop 5 line)) fine in
     subst (IsLineOf v line) (some_inj _ _ some) (record {
       spelled = sym (take-append-drop 5 line) ∙ ap (λ (l : List ℕ). l ++ drop 5 line) word;
       octets = (tt, (leb-true _ _ p.0, p.1));
     })
 sold v false line e fine word some = absurd cc
 
+down_fits : (t : Bool) (v : Version) → is_older v ≡ t → FitsVersion v (WithoutLink (cond t Two Three))
+down_fits true v older = older
+down_fits false v newer = newer
+
 forms : (v : Version) (t d h s : Bool) (line : List ℕ) (e : LiveEvent) → bytes_eq line (codes "tick") ≡ t → bytes_eq line (codes "down") ≡ d → bytes_eq (take 6 line) (codes "heard ") ≡ h → bytes_eq (take 5 line) (codes "sold ") ≡ s
-    → cond t (Some (OnLink Tick)) (cond d (Some WithoutLink) (cond h (heard_on v (drop 6 line)) (cond s (sold_on (drop 5 line)) None))) ≡ Some e → IsLineOf v line e
+    → cond t (Some (OnLink Tick)) (cond d (Some (WithoutLink (rules_of v))) (cond h (heard_on v (drop 6 line)) (cond s (sold_on (drop 5 line)) None))) ≡ Some e → IsLineOf v line e
 forms v true d h s line e is down word sells some = subst (IsLineOf v line) (some_inj _ _ some) (record { spelled = (bytes_eq-Decides line (codes "tick")).0 is; octets = (tt, tt) })
-forms v false true h s line e is down word sells some = subst (IsLineOf v line) (some_inj _ _ some) (record { spelled = (bytes_eq-Decides line (codes "down")).0 down; octets = (tt, tt) })
+forms v false true h s line e is down word sells some = subst (IsLineOf v line) (some_inj _ _ some) (record { spelled = (bytes_eq-Decides line (codes "down")).0 down; octets = (tt, down_fits (is_older v) v refl) })
 forms v false false true s line e is down word sells some = limited v (leb (length (drop 6 line)) 520) line e refl ((bytes_eq-Decides (take 6 line) (codes "heard ")).0 word) some
-forms v false false false true line e is down word sells some = sold v (nat_le (length (drop 5 line)) 120 && list_all is_printable (drop 5 line)) line e refl ((bytes_eq-Decides (take 5 line) (codes "sold ")).0 sells) some
+forms v false false false true line e is down word sells some = sold v (nat_le (length (drop 5 line)) 200 && list_all is_printable (drop 5 line)) line e refl ((bytes_eq-Decides (take 5 line) (codes "sold ")).0 sells) some
 forms v false false false false line e is down word sells some = absurd cc
 
 pub line_spelled : (v : Version) (line : List ℕ) (e : LiveEvent) → event_on v line ≡ Some e → IsLineOf v line e

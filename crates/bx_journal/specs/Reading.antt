@@ -13,7 +13,7 @@ use Rattle.bx_journal.specs.declared.head.TheConstants.{RULES, OLDER_RULES}
 use Rattle.bx_journal.specs.declared.head.Wanted.{Wanted}
 use Rattle.bx_journal.specs.declared.version.Version.{Version}
 use Rattle.bx_journal.specs.declared.version.Version.TheVariants.{Undated, Older, Dated}
-use Rattle.bx_journal.specs.Versions.{has_day, head_size, is_older, IsReadWhere}
+use Rattle.bx_journal.specs.Versions.{has_day, head_size, is_older, rules_of, IsReadWhere}
 use Rattle.bx_journal.specs.Events.{is_printable, AreEventsIn}
 use Rattle.bx_journal.specs.Heads.{IsJournalDay, IsWanted}
 use Rattle.bx_journal.specs.Hex.{octets_of_digits, is_hex}
@@ -31,7 +31,7 @@ heard_on version digits = if nat_le (length digits) 520 then option_map (heard_e
 
 -- what was sold
 abbrev pub sold_on : List ℕ → Option LiveEvent
-sold_on booking = if nat_le (length booking) 120 && list_all is_printable booking then Some (Sold booking) else None
+sold_on booking = if nat_le (length booking) 200 && list_all is_printable booking then Some (Sold booking) else None
 
 abbrev pub sold_by : List ℕ → Option LiveEvent
 sold_by line = if bytes_eq (take 5 line) (codes "sold ") then sold_on (drop 5 line) else None
@@ -40,7 +40,7 @@ sold_by line = if bytes_eq (take 5 line) (codes "sold ") then sold_on (drop 5 li
 abbrev pub event_on : Version → List ℕ → Option LiveEvent
 event_on version line =
     if bytes_eq line (codes "tick") then Some (OnLink Tick)
-    else if bytes_eq line (codes "down") then Some WithoutLink
+    else if bytes_eq line (codes "down") then Some (WithoutLink (rules_of version))
     else if bytes_eq (take 6 line) (codes "heard ") then heard_on version (drop 6 line)
     else sold_by line
 

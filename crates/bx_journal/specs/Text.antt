@@ -16,7 +16,7 @@ use Rattle.bx_journal.specs.Versions.{has_day}
 abbrev pub line_of : LiveEvent → List ℕ
 line_of (OnLink Tick) = codes "tick"
 line_of (OnLink (Receive octets)) = codes "heard " ++ hex_of 65 octets
-line_of WithoutLink = codes "down"
+line_of (WithoutLink rules) = codes "down"
 line_of (Sold booking) = codes "sold " ++ booking
 line_of (HeardByRulesTwo octets) = codes "heard " ++ hex_of 65 octets
 

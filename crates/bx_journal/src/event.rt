@@ -3,18 +3,18 @@
 ghost use Rattle.std.specs.Prelude.{◌≡◌};
 
 use arrayvec::ArrayVec;
-use bx_events::{Event, LiveEvent};
+use bx_events::{Event, LiveEvent, Rules};
 use bx_q931::Octets;
 
 /// The line of a booking that is sold: printable ASCII.
-pub type SoldLine = ArrayVec<u8, 120>;
+pub type SoldLine = ArrayVec<u8, 200>;
 
-/// An event of a live day, with the octets that came, to an exchange of these rules or of the rules 2.
+/// An event of a live day, with the octets that came, to an exchange of these rules or of the rules 2, as with a second without a link.
 #[derive(Drop)]
 pub enum LoggedEvent {
     Tick,
     Heard(Octets),
-    Down,
+    Down(Rules),
     Sold(SoldLine),
     HeardByRulesTwo(Octets),
 }
@@ -30,7 +30,7 @@ impl LoggedEvent {
         match self {
             LoggedEvent::Tick => LiveEvent::OnLink(Event::Tick),
             LoggedEvent::Heard(octets) => LiveEvent::OnLink(Event::Receive(octets)),
-            LoggedEvent::Down => LiveEvent::WithoutLink,
+            LoggedEvent::Down(rules) => LiveEvent::WithoutLink(*rules),
             LoggedEvent::Sold(booking) => LiveEvent::Sold(booking),
             LoggedEvent::HeardByRulesTwo(octets) => LiveEvent::HeardByRulesTwo(octets),
         }

@@ -49,7 +49,7 @@ fn sold_on(booking: &[u8]) -> Option<LoggedEvent>
     ensures { option_map logged_event result ≡ sold_on booking.now }
 {
     let mut line = SoldLine::new();
-    if booking.len() > 120 || !are_printable(booking) {
+    if booking.len() > 200 || !are_printable(booking) {
         return None;
     }
     match line.try_extend_from_slice(booking) {
@@ -76,7 +76,7 @@ pub(crate) fn event_on(version: Version, line: &[u8]) -> Option<LoggedEvent>
     if line == b"tick".as_slice() {
         Some(LoggedEvent::Tick)
     } else if line == b"down".as_slice() {
-        Some(LoggedEvent::Down)
+        Some(LoggedEvent::Down(version.rules()))
     } else if line.len() >= 6 && &line[..6] == b"heard ".as_slice() {
         heard_on(version, &line[6..])
     } else {

@@ -2,6 +2,8 @@
 
 ghost use Rattle.std.specs.Prelude.{◌≡◌, ◌≤◌};
 
+use bx_events::Rules;
+
 /// A version, with the rules by which the events are replayed.
 #[derive(Clone, Copy)]
 pub enum Version {
@@ -14,7 +16,7 @@ pub enum Version {
 }
 
 impl Version {
-    ghost use Rattle.bx_journal.specs.Versions.{has_day, head_size, is_older};
+    ghost use Rattle.bx_journal.specs.Versions.{has_day, head_size, is_older, rules_of};
 
     /// Whether its head tells a day.
     pub(crate) fn has_day(self) -> bool
@@ -35,6 +37,17 @@ impl Version {
             Version::Undated => true,
             Version::Older => true,
             Version::Dated => false,
+        }
+    }
+
+    /// The rules by which its events are replayed.
+    pub(crate) fn rules(self) -> Rules
+        ensures { result ≡ rules_of self }
+    {
+        if self.is_older() {
+            Rules::Two
+        } else {
+            Rules::Three
         }
     }
 

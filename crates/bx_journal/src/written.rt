@@ -69,7 +69,7 @@ pub(crate) fn line_of(event: LiveEvent<'_>) -> Line
             add(&mut line, b"heard ");
             add_hex(&mut line, b'A', octets);
         }
-        LiveEvent::WithoutLink => add(&mut line, b"down"),
+        LiveEvent::WithoutLink(_) => add(&mut line, b"down"),
         LiveEvent::Sold(booking) => {
             add(&mut line, b"sold ");
             add(&mut line, booking);

@@ -39,7 +39,7 @@ goes_on = by_due GoesOn on_begun on_logged on_received on_took on_synced on_writ
 
   on_logged : (d : Day) (room : ℕ) (event : LiveEvent) (done : Bool) → GoesOn (Logging d room event) (Logged event done)
   on_logged d room event false = tt
-  on_logged d room WithoutLink true = λ over. over
+  on_logged d room (WithoutLink rules) true = λ over. over
   on_logged d room (Sold line) true = λ over. over
   on_logged d room (HeardByRulesTwo octets) true = λ over. over
   on_logged d room (OnLink event) true = owing_on (exchange_next d event) room (exchange_sent d event) (exchange_text d event)

@@ -1,12 +1,13 @@
 -- How a day goes on by its journal.
-use Rattle.std.specs.Prelude.{◌≡◌, ℕ, Bool, false, List, Option, Some, None, Result}
+use Rattle.std.specs.Prelude.{◌≡◌, ℕ, Bool, false, List, [], Option, Some, None, Result}
 use Rattle.std.specs.Borrow.{Bor}
 use Rattle.bx_journal.specs.Files.{holds_in, may_leave_in}
 use Rattle.bx_journal.specs.Follows.{IsFollowed}
 use Rattle.bx_journal.specs.declared.fault.JournalFault.{JournalFault}
 use Rattle.bx_journal.specs.declared.file.FileDisk.{FileDisk}
 use Rattle.bx_live.specs.declared.log.Log.{Log}
-use Rattle.bx_day_openings.specs.Selling.{day_goes}
+use Rattle.bx_day_openings.specs.Selling.{day_goes, tags_go}
+use Rattle.bx_sales.specs.declared.tag.Tag.{Tag}
 use Rattle.bx_journal_files.specs.Readying.{IsReady}
 use Rattle.bx_day_openings.specs.Replays.{IsDayThrough, HasNoReplay}
 use Rattle.bx_journal.specs.Heads.{wanted_of}
@@ -42,6 +43,15 @@ IsKeptBy head channels (Some name) opened day kept = (before : Option (List ℕ)
 abbrev pub GoesOnBy : Head → List Bool → Option (Bor (List ℕ)) → Day → Day → Type 0
 GoesOnBy head channels None opened day = day ≡ opened
 GoesOnBy head channels (Some name) opened day = GoesOn head channels None opened day
+
+-- of each sale in a journal that was read, or was not begun, under which key it was asked for, or none
+abbrev pub IsTaggedOn : Head → Option (List ℕ) → List (Option Tag) → Type 0
+IsTaggedOn head before tags = (faulted : Bool) × (after : Option (List ℕ)) × (whole : Result ℕ JournalFault) × IsFollowed tags_go faulted before after (wanted_of head) [] tags whole
+
+-- the same of the journal in a file; without one nothing was sold
+abbrev pub IsTaggedBy : Head → Option (Bor (List ℕ)) → List (Option Tag) → Type 0
+IsTaggedBy head None tags = tags ≡ []
+IsTaggedBy head (Some name) tags = IsTaggedOn head None tags
 
 -- the journal of this name is not followed to its end, or can't be made ready
 abbrev pub IsNotResumed : List ℕ → Head → List Bool → Day → LiveFault → Type 0

@@ -3,7 +3,7 @@
 ghost use Rattle.std.specs.Prelude.{◌≡◌, IfOk, IfErr, OnOk};
 ghost use Rattle.bx_journal_files.specs.Readying.{IsReady};
 ghost use Rattle.bx_journal_files.specs.NewJournalsInside.{HasLength, IsUnopenedJournal};
-ghost use Rattle.bx_journal_files.specs.Resuming.{GoesOn, GoesOnBy, IsKeptOn, IsKeptBy, IsNotResumed, IsNoLog};
+ghost use Rattle.bx_journal_files.specs.Resuming.{GoesOn, GoesOnBy, IsKeptOn, IsKeptBy, IsTaggedOn, IsTaggedBy, IsNotResumed, IsNoLog};
 
 use crate::fault::LiveFault;
 use crate::file_stats::FileStats;
@@ -16,15 +16,17 @@ use bx_day_openings::{DayOpening, replay_journal};
 use bx_devices::Watched;
 use bx_journal::{Disk, DiskFailed, DiskFile, FileDisk, Head, JournalFault, begin, resume};
 use bx_live::Log;
+use bx_sales::Tag;
 use std::alloc::Global;
 use std::fs::{File, Files, OpenFile};
 use std::io;
 use std::io::Read;
 
-/// An exchange whose day goes on, with what it logs.
+/// An exchange whose day goes on, of each sale in its journal under which key it was asked for, or none, and what it logs.
 #[derive(Drop)]
 pub struct Resumed<D: Disk> {
     pub exchange: Exchange,
+    pub tags: Vec<Option<Tag>>,
     pub log: Log<D>,
 }
 
@@ -59,6 +61,7 @@ pub fn resume_on<'a, F: Read + DiskFile + Drop>(
     // What happens from then on is logged after what was read.
     ensures kept { IfOk result (λ resumed.
         IsKeptOn F.contents F.is_told head.now opening.channels (F.remaining file) opening.exchange resumed.exchange resumed.log) }
+    ensures tagged { IfOk result (λ resumed. IsTaggedOn head.now (F.remaining file) resumed.tags.items) }
     ensures refused { IfErr result (IsNotResumed name.now head.now opening.channels opening.exchange) }
 {
     let mut journal = Watched::new(file);
@@ -73,6 +76,7 @@ pub fn resume_on<'a, F: Read + DiskFile + Drop>(
     match make_ready(&mut disk, head, replayed.whole) {
         Ok(()) => Ok(Resumed {
             exchange: replayed.exchange,
+            tags: replayed.tags,
             log: Log { disk: Some(disk) },
         }),
         Err(_) => Err(LiveFault::CannotRecord(name)),
@@ -151,12 +155,14 @@ pub fn resume_named<'a, H: Files + Locks + FileStats + AllocGlobal + Eprint>(
 ) -> Result<Resumed<FileDisk<NamedFile<'a, H, H::File>>>, LiveFault<'a>>
     ensures resumed { IfOk result (λ resumed. GoesOnBy head.now opening.channels name.entry opening.exchange resumed.exchange) }
     ensures kept { IfOk result (λ resumed. IsKeptBy head.now opening.channels name.entry opening.exchange resumed.exchange resumed.log) }
+    ensures tagged { IfOk result (λ resumed. IsTaggedBy head.now name.entry resumed.tags.items) }
     ensures refused { IfErr result (IsNoLog name.entry head.now opening.channels opening.exchange) }
 {
     let Some(name) = name else {
         let DayOpening { exchange, .. } = opening;
         return Ok(Resumed {
             exchange,
+            tags: Vec::new(rt.alloc()),
             log: Log { disk: None },
         });
     };

@@ -66,7 +66,7 @@ fn event_line(line: &[u8], is_older: bool, marks: &mut Marks) -> bool {
         return true;
     }
     if line == b"down".as_slice() {
-        mark(marks, b"d");
+        mark(marks, if is_older { b"e" } else { b"d" });
         return true;
     }
     if let Some(booking) = line.strip_prefix(b"sold ".as_slice()) {
@@ -88,7 +88,7 @@ fn event_line(line: &[u8], is_older: bool, marks: &mut Marks) -> bool {
 
 /// The same of what stands after `sold `.
 fn sold_line(booking: &[u8], marks: &mut Marks) -> bool {
-    let right = booking.len() <= 120 && booking.iter().all(|octet| *octet >= 32 && *octet <= 126);
+    let right = booking.len() <= 200 && booking.iter().all(|octet| *octet >= 32 && *octet <= 126);
     if right {
         mark(marks, b"s");
         mark(marks, booking);

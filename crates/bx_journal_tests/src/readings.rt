@@ -136,7 +136,7 @@ fn no_line_is_longer_than_that_of_the_longest_message(rt: HostRuntime) -> Result
 fn no_booking_is_longer_than_its_line(rt: HostRuntime) -> Result<(), Fail> {
     let alloc = rt.alloc();
     let bad = Some(Err(JournalFault::BadLine(4)));
-    assert!(rt; digits_after(alloc, b"sold ", 120, b"\n") == Some(Ok(240)));
-    assert!(rt; digits_after(alloc, b"sold ", 121, b"\n") == bad);
+    assert!(rt; digits_after(alloc, b"sold ", 200, b"\n") == Some(Ok(320)));
+    assert!(rt; digits_after(alloc, b"sold ", 201, b"\n") == bad);
     Ok(())
 }

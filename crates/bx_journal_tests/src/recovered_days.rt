@@ -1,7 +1,7 @@
 //! The day of an exchange after a journal.
 
 use crate::worked::HEAD;
-use bx_calls::CallState;
+use bx_calls::{CallState, Rules};
 use bx_channels::Channel;
 use bx_day::{Exchange, Outcome};
 use bx_devices::Watched;
@@ -34,7 +34,7 @@ fn outcome_at(exchange: &Exchange) -> Option<(u32, Option<(u16, CallState)>, Opt
 fn by_hand(alloc: Global, has_last: bool) -> Option<Exchange> {
     let mut exchange = exchange(alloc)?;
     let _sent = exchange.tick();
-    exchange.second_without_link();
+    exchange.second_without_link(Rules::Three);
     let _sent = exchange.tick();
     let _reply = exchange.receive(&[0x08, 0x02, 0x80, 0x01, 0x07]);
     if has_last {

@@ -1,12 +1,13 @@
 //! What follows a journal in the tests: it writes down what happens.
 
 use arrayvec::ArrayVec;
+use bx_calls::Rules;
 use bx_devices::Watched;
 use bx_journal::{Follower, JournalFault, LoggedEvent, Wanted, read_journal};
 use std::io::Read;
 
-/// A letter for each event, `t`, `d`, `h`, `o` or `s`, and after `h`, of what came, `o`, of what came by the older rules, and `s`, of
-/// what was sold, the octets and a full stop.
+/// A letter for each event, `t`, `d`, `e`, `h`, `o` or `s`: `d` is a second without a link, `e` one by the older rules; and after `h`, of
+/// what came, `o`, of what came by the older rules, and `s`, of what was sold, the octets and a full stop.
 #[derive(Drop)]
 pub struct Told {
     pub marks: ArrayVec<u8, 256>,
@@ -30,7 +31,8 @@ impl Follower for Told {
                 mark(&mut self.marks, octets);
                 mark(&mut self.marks, b".");
             }
-            LoggedEvent::Down => mark(&mut self.marks, b"d"),
+            LoggedEvent::Down(Rules::Three) => mark(&mut self.marks, b"d"),
+            LoggedEvent::Down(Rules::Two) => mark(&mut self.marks, b"e"),
             LoggedEvent::Sold(booking) => {
                 mark(&mut self.marks, b"s");
                 mark(&mut self.marks, booking);

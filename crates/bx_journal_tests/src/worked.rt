@@ -1,5 +1,6 @@
 //! A journal that the tests share.
 
+use bx_calls::Rules;
 use bx_journal::{Event, Head, JournalDay, LiveEvent};
 
 /// The digest of some plan.
@@ -35,7 +36,7 @@ pub static UNDATED: &[u8] =
 
 pub const TICK: LiveEvent<'static> = LiveEvent::OnLink(Event::Tick);
 
-pub const DOWN: LiveEvent<'static> = LiveEvent::WithoutLink;
+pub const DOWN: LiveEvent<'static> = LiveEvent::WithoutLink(Rules::Three);
 
 pub const SOLD: LiveEvent<'static> = LiveEvent::Sold(b"60 90 5 1234 in");
 

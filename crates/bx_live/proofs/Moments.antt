@@ -12,7 +12,7 @@ use Rattle.bx_q931.specs.declared.reference.Reference.{Reference}
 use Rattle.bx_q931.specs.declared.reference.Reference.TheVariants.{Dummy, Value}
 use Rattle.bx_events.specs.Events.{Tick, Receive}
 use Rattle.bx_calls.specs.Said.{Said, said_of}
-use Rattle.bx_calls.specs.declared.rules.Rules.TheVariants.{Three}
+use Rattle.bx_events.specs.declared.rules.Rules.TheVariants.{Three}
 use Rattle.bx_calls.specs.Sending.{Sent, Answered, unchanged}
 use Rattle.bx_day.specs.Day.{Day, every_channel}
 use Rattle.bx_day.specs.Ticks.{ticked}

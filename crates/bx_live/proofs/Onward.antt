@@ -23,7 +23,7 @@ use Rattle.bx_live.proofs.Days.{step_day}
 days_on : (xs ys : List LiveEvent) (d : Day) → live_day_after (xs ++ ys) d ≡ live_day_after ys (live_day_after xs d)
 days_on [] ys d = refl
 days_on (OnLink e ∷ xs) ys d = days_on xs ys (exchange_next d e)
-days_on (WithoutLink ∷ xs) ys d = days_on xs ys _
+days_on (WithoutLink rules ∷ xs) ys d = days_on xs ys _
 days_on (Sold line ∷ xs) ys d = days_on xs ys d
 days_on (HeardByRulesTwo octets ∷ xs) ys d = days_on xs ys (live_happens d (HeardByRulesTwo octets)).day
 

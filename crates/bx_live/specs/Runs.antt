@@ -1,4 +1,5 @@
 -- A live run of a day: which acts come one after another.
+use Rattle.bx_events.specs.declared.rules.Rules.TheVariants.{Three}
 use Rattle.std.specs.Prelude.{◌≡◌, ℕ, zero, suc, ◌+◌, ◌-◌, ◌==◌, Bool, true, false, List, [], ◌∷◌, ◌++◌, if◌then◌else◌, Option, Some, None, Result, Ok, Err}
 use Rattle.arrayvec.specs.ArrayVec.{ArrayVec}
 use Rattle.bx_events.specs.Events.{Tick, Receive, LiveEvent, OnLink, WithoutLink, Sold, HeardByRulesTwo}
@@ -9,7 +10,7 @@ use Rattle.bx_frames.specs.declared.frame.Frame.TheVariants as frames
 use Rattle.bx_frames.specs.declared.turn.TheConstants.{MAX_MESSAGES}
 use Rattle.bx_day.specs.Day.{Day}
 use Rattle.bx_day.specs.Course.{exchange_next, exchange_sent, exchange_text}
-use Rattle.bx_day.specs.Outages.{without_link, live_happens}
+use Rattle.bx_day.specs.Outages.{without_link_by, live_happens}
 use Rattle.bx_live.specs.declared.world.Begin.{Begin}
 use Rattle.bx_live.specs.declared.world.Begin.TheVariants as begins
 use Rattle.bx_live.specs.declared.world.Loss.{Loss}
@@ -78,7 +79,7 @@ owing d room (message ∷ sent) text = Owing d room true (text ∷ [])
 
 -- An event that is logged happens. What came by the rules 2 is logged no more, and nothing is written for it.
 abbrev pub happened : Day → ℕ → LiveEvent → Place
-happened d room WithoutLink = Between (without_link d)
+happened d room (WithoutLink rules) = Between (without_link_by rules d)
 happened d room (Sold line) = Between d
 happened d room (HeardByRulesTwo octets) = Between (live_happens d (HeardByRulesTwo octets)).day
 happened d room (OnLink event) = owing (exchange_next d event) room (exchange_sent d event) (exchange_text d event)
@@ -112,7 +113,7 @@ writing d room (text ∷ texts) = Owing d room false (text ∷ texts)
 -- begins any more, the day is closed
 abbrev pub begun : Day → Begin → Place
 begun d begins.Late = Losing d losses.Late
-begun d begins.Alone = Logging d 0 WithoutLink
+begun d begins.Alone = Logging d 0 (WithoutLink Three)
 begun d begins.Joined = Logging d MAX_MESSAGES (OnLink Tick)
 begun d begins.Ended = Closing d
 
@@ -125,7 +126,7 @@ heard d room (Err fault) = Losing d (losses.Fault fault)
 
 -- without its peer a second that has begun late is one without a link; and a turn is over
 abbrev pub lost : Day → Loss → Place
-lost d losses.Late = Logging d 0 WithoutLink
+lost d losses.Late = Logging d 0 (WithoutLink Three)
 lost d (losses.Fault fault) = Between d
 
 -- where the run is after the act that was due

@@ -45,7 +45,7 @@ pub record IsWrittenFor (d : Day) (acts : List Act) (octets : List ℕ) : Type 0
 -- run logs
 abbrev pub live_text : Day → LiveEvent → List ℕ
 live_text d (OnLink event) = exchange_text d event
-live_text d WithoutLink = []
+live_text d (WithoutLink rules) = []
 live_text d (Sold line) = []
 live_text d (HeardByRulesTwo octets) = []
 

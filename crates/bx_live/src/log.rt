@@ -7,7 +7,7 @@ ghost use Rattle.bx_live.specs.Acts.{Synced};
 ghost use Rattle.bx_live.specs.Logs.{WritesEvent, Commits, OnLog, WritesKept};
 
 use crate::world::CannotLog;
-use bx_events::{Event, LiveEvent};
+use bx_events::{Event, LiveEvent, Rules};
 use bx_journal::{Disk, are_printable, commit, write_event};
 use bx_q931::MAX_MESSAGE;
 
@@ -17,7 +17,7 @@ pub struct Log<D: Disk> {
     pub disk: Option<D>,
 }
 
-/// Whether an event may be logged: what came is no longer than the longest message, and came by the rules of this program, and what is
+/// Whether an event may be logged: it happens by the rules of this program, what came is no longer than the longest message, and what is
 /// sold is printable and no longer than its line may be.
 fn is_message(event: LiveEvent<'_>) -> bool
     ensures taken { result ≡ true → IsLoggable (live_event_of event.entry) }
@@ -25,10 +25,10 @@ fn is_message(event: LiveEvent<'_>) -> bool
 {
     match event {
         LiveEvent::OnLink(Event::Receive(octets)) => octets.len() <= MAX_MESSAGE,
-        LiveEvent::OnLink(Event::Tick) | LiveEvent::WithoutLink => true,
-        LiveEvent::Sold(booking) => booking.len() <= 120 && are_printable(booking),
-        // It stands in older journals alone.
-        LiveEvent::HeardByRulesTwo(_) => false,
+        LiveEvent::OnLink(Event::Tick) | LiveEvent::WithoutLink(Rules::Three) => true,
+        LiveEvent::Sold(booking) => booking.len() <= 200 && are_printable(booking),
+        // These stand in older journals alone.
+        LiveEvent::HeardByRulesTwo(_) | LiveEvent::WithoutLink(Rules::Two) => false,
     }
 }
 
@@ -57,7 +57,7 @@ fn bring_to_disk<D: Disk>(disk: &mut D) -> Result<(), CannotLog>
 
 impl<D: Disk> Log<D> {
     /// Logs an event, where a journal is kept. It need not be on the disk before the next sync. `CannotLog` where what
-    /// came has more than `MAX_MESSAGE` octets, or came by the rules 2, or the disk did not take the line.
+    /// came has more than `MAX_MESSAGE` octets, or the event is one by the rules 2, or the disk did not take the line.
     pub fn log(&mut self, event: LiveEvent<'_>) -> Result<(), CannotLog>
         ensures { WritesKept D.holds D.may_leave D.moment D.left_since D.has_failed self.old.disk (live_event_of event.entry) (is_ok result) self.new.disk }
     {

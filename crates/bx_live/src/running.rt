@@ -2,6 +2,7 @@
 
 ghost use Rattle.std.specs.Prelude.{◌≡◌, ℕ, ◌≤◌, min, max, Ok, OnOk};
 ghost use Rattle.bx_events.specs.Events.{Tick, OnLink, WithoutLink};
+ghost use Rattle.bx_events.specs.declared.rules.Rules.TheVariants.{Three};
 ghost use Rattle.bx_frames.specs.declared.turn.TheConstants.{MAX_MESSAGES};
 ghost use Rattle.bx_day.specs.Day.{Day};
 ghost use Rattle.bx_live.specs.Runs.{Logging, Hearing, Between, Closing, Done, Losing};
@@ -14,7 +15,7 @@ use crate::hearing::hear_turn;
 use crate::turn::{Stop, open_turn};
 use crate::world::{Begin, CannotLog, Loss, World};
 use bx_day::Exchange;
-use bx_events::{LAST_MOMENT, LiveEvent};
+use bx_events::{LAST_MOMENT, LiveEvent, Rules};
 
 /// How a second that was waited for is over.
 #[derive(Clone, Copy, Debug, PartialEq, Eq)]
@@ -27,12 +28,12 @@ pub enum Second {
 
 /// The next second, as one without a link.
 fn pass_without_link<W: World>(exchange: &mut Exchange, world: &mut W) -> Result<Second, CannotLog>
-    ensures ran { RunsInside W.did world.old world.new (Logging exchange.old 0 WithoutLink) (after_second exchange.new result) }
+    ensures ran { RunsInside W.did world.old world.new (Logging exchange.old 0 (WithoutLink Three)) (after_second exchange.new result) }
     ensures moment { RisesBySecond exchange.old exchange.new result }
     ensures passes { ¬ (result ≡ Ok Ended) }
 {
-    world.log(LiveEvent::WithoutLink)?;
-    exchange.second_without_link();
+    world.log(LiveEvent::WithoutLink(Rules::Three))?;
+    exchange.second_without_link(Rules::Three);
     Ok(Second::Passed)
 }
 

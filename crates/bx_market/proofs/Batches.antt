@@ -1,5 +1,5 @@
 -- A booking of a batch that is offered.
-use Rattle.std.proofs.Common.{◌≡◌, ◌⊎◌, inl, inr, ℕ, suc, ◌<◌, ◌≤◌, Bool, true, false, List, [], ◌∷◌, ◌++◌, length, Some, Result, Ok, Err, refl, sym, ap, ◌∙◌, subst, arith}
+use Rattle.std.proofs.Common.{◌≡◌, ◌⊎◌, inl, inr, ℕ, suc, ◌<◌, ◌≤◌, Bool, true, false, List, [], ◌∷◌, ◌++◌, length, Option, Some, Result, Ok, Err, refl, sym, ap, ◌∙◌, subst, arith}
 use Rattle.std.proofs.lemmas.Bool.{cases_lt}
 use Rattle.bx_base.specs.Bookings.{Row, row_at}
 use Rattle.bx_day.specs.Day.{Day}
@@ -8,6 +8,8 @@ use Rattle.bx_live.specs.declared.world.CannotLog.{CannotLog}
 use Rattle.bx_live.specs.Acts.{Act, Logged}
 use Rattle.bx_live.specs.Runs.{Over}
 use Rattle.bx_planfile.specs.OneBooking.{booking_text, booking_on, row_on, row_or_none}
+use Rattle.bx_sales.specs.Tags.{row_behind, tag_of, IsReadBack}
+use Rattle.bx_sales.specs.declared.tag.Tag.{Tag}
 use Rattle.bx_sales.specs.Selling.{IsSold}
 use Rattle.bx_sales.specs.declared.selling.NoSale.{NoSale}
 use Rattle.bx_market.specs.declared.market.Answer.{Answer}
@@ -50,30 +52,30 @@ none_sold_of (row ∷ batch) (Refused why ∷ answers) none = none_sold_of batch
 
 -- ---- one booking
 
-module _ {W : Type 0} {did : W → List Act → W → Type 0} {dealt : W → List Deal → W → Type 0} (channels : List Bool) (by : (v w : W) (acts : List Act) → did v acts w → dealt v (all_ran acts) w) (u v : W) (shown d d1 : Day) (batch sold : List Row) where
-  pub sold_is_logged : (row : Row) (line : List ℕ) → did u (Logged (Sold line) true ∷ []) v → line ≡ booking_text row → booking_on (booking_text row) ≡ Some row → IsSold channels row d d1
-      → Asks dealt channels u v (Filing shown d batch sold) (Filing shown d1 batch (sold ++ row ∷ []))
-  sold_is_logged row line done text again is =
-      let same : row ≡ row_on line = sym (ap row_on text ∙ ap row_or_none again) in
-      one_inside channels by (Filing shown d batch sold) (Filing shown d1 batch (sold ++ row ∷ [])) (Logged (Sold line) true) done
-      (d1, subst (λ (r : Row). IsSold channels r d d1) same is, ap (λ (r : Row). Filing shown d1 batch (sold ++ r ∷ [])) same) refl
+module _ {W : Type 0} {did : W → List Act → W → Type 0} {dealt : W → List Deal → W → Type 0} (channels : List Bool) (by : (v w : W) (acts : List Act) → did v acts w → dealt v (all_ran acts) w) (u v : W) (shown d d1 : Day) (tag : Option Tag) (batch sold : List Row) where
+  pub sold_is_logged : (row : Row) (line : List ℕ) → did u (Logged (Sold line) true ∷ []) v → IsReadBack tag (booking_text row) line → booking_on (booking_text row) ≡ Some row → IsSold channels row d d1
+      → Asks dealt channels u v (Filing shown d tag batch sold) (Filing shown d1 tag batch (sold ++ row ∷ []))
+  sold_is_logged row line done (text, under) again is =
+      let same : row ≡ row_behind row_on line = sym (ap row_on text ∙ ap row_or_none again) in
+      one_inside channels by (Filing shown d tag batch sold) (Filing shown d1 tag batch (sold ++ row ∷ [])) (Logged (Sold line) true) done
+      (d1, subst (λ (r : Row). IsSold channels r d d1) same is, under, ap (λ (r : Row). Filing shown d1 tag batch (sold ++ r ∷ [])) same) refl
 
-  pub not_logged : (line : List ℕ) → did u (Logged (Sold line) false ∷ []) v → Asks dealt channels u v (Filing shown d batch sold) (Within (Over d))
-  not_logged line done = one_inside channels by (Filing shown d batch sold) (Within (Over d)) (Logged (Sold line) false) done refl refl
+  pub not_logged : (line : List ℕ) → did u (Logged (Sold line) false ∷ []) v → Asks dealt channels u v (Filing shown d tag batch sold) (Within (Over d))
+  not_logged line done = one_inside channels by (Filing shown d tag batch sold) (Within (Over d)) (Logged (Sold line) false) done refl refl
 
 module _ {W : Type 0} {did : W → List Act → W → Type 0} {dealt : W → List Deal → W → Type 0} (channels : List Bool) (by : (v w : W) (acts : List Act) → did v acts w → dealt v (all_ran acts) w) (none : (w : W) → did w [] w) where
-  pub not_sold : (u : W) (shown d d1 : Day) (batch sold : List Row) → d1 ≡ d → Asks dealt channels u u (Filing shown d batch sold) (Filing shown d1 batch sold) × (d1 ≡ d)
-  not_sold u shown d d1 batch sold same = (at_stand (Filing shown d batch sold) (Filing shown d1 batch sold) (ap (λ (x : Day). Filing shown x batch sold) (sym same)) (none_asked channels by none u (Filing shown d batch sold)), same)
+  pub not_sold : (u : W) (shown d d1 : Day) (tag : Option Tag) (batch sold : List Row) → d1 ≡ d → Asks dealt channels u u (Filing shown d tag batch sold) (Filing shown d1 tag batch sold) × (d1 ≡ d)
+  not_sold u shown d d1 tag batch sold same = (at_stand (Filing shown d tag batch sold) (Filing shown d1 tag batch sold) (ap (λ (x : Day). Filing shown x tag batch sold) (sym same)) (none_asked channels by none u (Filing shown d tag batch sold)), same)
 
-module _ {W : Type 0} {dealt : W → List Deal → W → Type 0} (channels : List Bool) (u v : W) (shown d d1 : Day) (batch : List Row) (answers : List Answer) where
-  pub offered_more : (a : Answer) (index : ℕ) (row : Row) → IsOffered dealt channels u v shown batch (sold_of batch answers) row d d1 (Ok a) → row ≡ row_at batch index → length answers ≡ index → index < length batch
-      → Asks dealt channels u v (Filing shown d batch (sold_of batch answers)) (Filing shown d1 batch (sold_of batch (answers ++ a ∷ [])))
+module _ {W : Type 0} {dealt : W → List Deal → W → Type 0} (channels : List Bool) (tag : Option Tag) (u v : W) (shown d d1 : Day) (batch : List Row) (answers : List Answer) where
+  pub offered_more : (a : Answer) (index : ℕ) (row : Row) → IsOffered dealt channels tag u v shown batch (sold_of batch answers) row d d1 (Ok a) → row ≡ row_at batch index → length answers ≡ index → index < length batch
+      → Asks dealt channels u v (Filing shown d tag batch (sold_of batch answers)) (Filing shown d1 tag batch (sold_of batch (answers ++ a ∷ [])))
   offered_more Accepted index row run is len lt =
       let same : row ≡ row_at batch (length answers) = is ∙ ap (row_at batch) (sym len) in
       let all : sold_of batch answers ++ row ∷ [] ≡ sold_of batch (answers ++ Accepted ∷ []) = ap (λ (r : Row). sold_of batch answers ++ r ∷ []) same ∙ sym (sold_more batch answers (omega (arith, len, lt))) in
-      at_stand (Filing shown d1 batch (sold_of batch answers ++ row ∷ [])) (Filing shown d1 batch (sold_of batch (answers ++ Accepted ∷ []))) (ap (Filing shown d1 batch) all) run
+      at_stand (Filing shown d1 tag batch (sold_of batch answers ++ row ∷ [])) (Filing shown d1 tag batch (sold_of batch (answers ++ Accepted ∷ []))) (ap (Filing shown d1 tag batch) all) run
   offered_more (Refused why) index row (run, same) is len lt =
-      at_stand (Filing shown d1 batch (sold_of batch answers)) (Filing shown d1 batch (sold_of batch (answers ++ Refused why ∷ []))) (ap (Filing shown d1 batch) (sym (sold_same batch answers why))) run
+      at_stand (Filing shown d1 tag batch (sold_of batch answers)) (Filing shown d1 tag batch (sold_of batch (answers ++ Refused why ∷ []))) (ap (Filing shown d1 tag batch) (sym (sold_same batch answers why))) run
 
 -- a run that goes on well, or does not
 pub or_more : {W A : Type 0} {dealt : W → List Deal → W → Type 0} (channels : List Bool) (more : (u v w : W) (xs ys : List Deal) → dealt u xs v → dealt v ys w → dealt u (xs ++ ys) w) (u v w : W) (p q s : Stand) (r : Result A CannotLog)

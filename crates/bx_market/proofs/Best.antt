@@ -1,5 +1,5 @@
 -- What is accepted of a batch is the best choice.
-use Rattle.std.proofs.Common.{◌≡◌, ℕ, zero, suc, ◌<◌, ◌≤◌, Bool, true, false, true≢false, cond, List, [], ◌∷◌, ◌++◌, map, length, refl, sym, ap, ap₂, ◌∙◌, subst, arith, append_assoc, ◌⊎◌, inl, inr}
+use Rattle.std.proofs.Common.{◌≡◌, ℕ, zero, suc, ◌<◌, ◌≤◌, Bool, true, false, true≢false, cond, Option, List, [], ◌∷◌, ◌++◌, map, length, refl, sym, ap, ap₂, ◌∙◌, subst, arith, append_assoc, ◌⊎◌, inl, inr}
 use Rattle.std.proofs.lemmas.Bool.{cases_lt, false_from_ne_true}
 use Rattle.std.proofs.lemmas.List.{append-nil, get_or_past, length-map}
 use Rattle.bx_base.specs.Bookings.{Row, row_at}
@@ -11,6 +11,7 @@ use Rattle.bx_market.specs.declared.market.Answer.{Answer}
 use Rattle.bx_market.specs.declared.market.Answer.TheVariants.{Accepted, Refused}
 use Rattle.bx_market.specs.Answers.{answer_at, IsToldOf, AreToldByChoice, AreToldOfMemory, AreTold}
 use Rattle.bx_market.specs.Choices.{IsBestBatch}
+use Rattle.bx_sales.specs.declared.tag.Tag.{Tag}
 use Rattle.bx_market.specs.Deals.{Deal, Answered}
 use Rattle.bx_market.specs.Stands.{Stand, Within, Filing, Telling, GoesByDeal, IsMarketRun}
 use Rattle.bx_market.specs.Told.{is_sold, IsUnhindered, IsToldOfBest}
@@ -74,13 +75,13 @@ module _ (channels : List Bool) (d : Day) (batch : List Row) where
     best_of (inl told) = by_choice told
     best_of (inr told) = of_memory told
 
-of_best : (channels : List Bool) (deals : List Deal) (shown : Day) (batch sold : List Row) (answers : List Answer) → AreSold deals shown batch sold → AreTold channels shown batch answers → IsToldOfBest channels deals answers
-of_best channels deals shown batch sold answers s told = record { shown = shown; batch = batch; before = s.before; since = s.since; are = s.are; told = told; best = λ fine. best_of channels shown batch answers fine told }
+of_best : (channels : List Bool) (deals : List Deal) (shown : Day) (tag : Option Tag) (batch sold : List Row) (answers : List Answer) → AreSold deals shown tag batch sold → AreTold channels shown batch answers → IsToldOfBest channels deals answers
+of_best channels deals shown tag batch sold answers s told = record { shown = shown; request = record { tag = tag; batch = batch }; before = s.before; since = s.since; are = s.are; told = told; best = λ fine. best_of channels shown batch answers fine told }
 
 told_at : (channels : List Bool) (deals : List Deal) (from to : Stand) (answers : List Answer) → Stands deals from → GoesByDeal channels from (Answered answers) to → IsToldOfBest channels deals answers
 told_at channels deals (Within p) to answers s e = absurd e
-told_at channels deals (Filing shown d batch sold) to answers s (none, are, told, e) = of_best channels deals shown batch sold answers s told
-told_at channels deals (Telling shown d batch sold) to answers s (are, told, e) = of_best channels deals shown batch sold answers s.sold_since told
+told_at channels deals (Filing shown d tag batch sold) to answers s (none, are, told, e) = of_best channels deals shown tag batch sold answers s told
+told_at channels deals (Telling shown d tag batch sold) to answers s (are, told, e) = of_best channels deals shown tag batch sold answers s.sold_since told
 
 pub told_of_best : (channels : List Bool) (done before following : List Deal) (answers : List Answer) (from to : Stand) → Stands done from → IsMarketRun channels from (before ++ Answered answers ∷ following) to → IsToldOfBest channels (done ++ before) answers
 told_of_best channels done [] following answers from to s (mid, goes, rest) = subst (λ (l : List Deal). IsToldOfBest channels l answers) (sym (append-nil done)) (told_at channels done from mid answers s goes)

@@ -15,6 +15,8 @@ use Rattle.bx_sales.proofs.FirstFit.{still_first_fit, first_fit_sold, no_other_p
 use Rattle.bx_market.specs.declared.market.Answer.{Answer}
 use Rattle.bx_market.specs.declared.market.Answer.TheVariants.{Refused}
 use Rattle.bx_market.specs.Answers.{answer_at, IsToldOf, HasOtherChannels, AreTold}
+use Rattle.bx_market.specs.declared.market.Request.{Request}
+use Rattle.bx_sales.specs.Tags.{row_behind}
 use Rattle.bx_market.specs.Deals.{Deal, Asked, Answered, acts_of}
 use Rattle.bx_market.specs.Stands.{Stand, Within, GoesByDeal, IsMarketRun, stand_day}
 use Rattle.bx_market.proofs.Eligible.{eligible_later}
@@ -33,7 +35,7 @@ run_split channels p r (x ∷ xs) ys (mid, goes, rest) = let s = run_split chann
 
 first_fit_through : (channels : List Bool) (events : List LiveEvent) (d d1 : Day) → IsFirstFitDay channels d → RunsThrough channels row_on events d d1 → IsFirstFitDay channels d1
 first_fit_through channels [] d d1 first same = subst (IsFirstFitDay channels) (sym same) first
-first_fit_through channels (Sold line ∷ events) d d1 first (next, is, rest) = first_fit_through channels events next d1 (first_fit_sold channels (row_on line) d first next is) rest
+first_fit_through channels (Sold line ∷ events) d d1 first (next, is, rest) = first_fit_through channels events next d1 (first_fit_sold channels (row_behind row_on line) d first next is) rest
 first_fit_through channels (x ∷ events) d d1 first rest = first_fit_through channels events _ d1 (still_first_fit channels d x first) rest
 
 first_fit_bought : (channels : List Bool) (rows : List Row) (d d1 : Day) → IsFirstFitDay channels d → GoesThrough channels (map Bought rows) d d1 → IsFirstFitDay channels d1
@@ -59,21 +61,21 @@ module _ (channels : List Bool) (d : Day) (batch : List Row) (first : IsFirstFit
     by_order (inl later) = let is = told.memory i (omega (arith, lt, told.one_each)) later in cc
     by_order (inr late) = let is = told.late i (omega (arith, lt, told.one_each)) late in cc
 
-at_asked : (channels : List Bool) (shown : Day) (batch : List Row) (q r : Stand) → IsFirstFitDay channels (stand_day q) → GoesByDeal channels q (Asked shown (Some batch)) r → IsFirstFitDay channels shown
-at_asked channels shown batch (Within (Between e)) r there (same, is) = subst (IsFirstFitDay channels) (sym same) there
-at_asked channels shown batch q r there goes = absurd goes
+at_asked : (channels : List Bool) (shown : Day) (request : Request) (q r : Stand) → IsFirstFitDay channels (stand_day q) → GoesByDeal channels q (Asked shown (Some request)) r → IsFirstFitDay channels shown
+at_asked channels shown request (Within (Between e)) r there (same, is) = subst (IsFirstFitDay channels) (sym same) there
+at_asked channels shown request q r there goes = absurd goes
 
 -- the day that was shown where a batch was asked for
-shown_first_fit : (channels : List Bool) (d shown : Day) (batch : List Row) (before since : List Deal) (to : Stand) → IsFirstFitDay channels d → IsMarketRun channels (Within (Between d)) (before ++ Asked shown (Some batch) ∷ since) to → IsFirstFitDay channels shown
-shown_first_fit channels d shown batch before since to first run =
-    let s = run_split channels (Within (Between d)) to before (Asked shown (Some batch) ∷ since) run in
+shown_first_fit : (channels : List Bool) (d shown : Day) (request : Request) (before since : List Deal) (to : Stand) → IsFirstFitDay channels d → IsMarketRun channels (Within (Between d)) (before ++ Asked shown (Some request) ∷ since) to → IsFirstFitDay channels shown
+shown_first_fit channels d shown request before since to first run =
+    let s = run_split channels (Within (Between d)) to before (Asked shown (Some request) ∷ since) run in
     let there = first_fit_through channels (logged_by (acts_of before)) d (stand_day s.at) first (run_through channels (Within (Between d)) s.at before tt s.before) in
     let following = s.following in
-    at_asked channels shown batch s.at following.0 there following.1
+    at_asked channels shown request s.at following.0 there following.1
 
 pub never_other : (channels : List Bool) (before following : List Deal) (answers : List Answer) (d : Day) (to : Stand) → IsFirstFitDay channels d → IsMarketRun channels (Within (Between d)) (before ++ Answered answers ∷ following) to → (i : ℕ) → i < length answers → answer_at answers i ≡ Refused OtherChannels → ⊥
 never_other channels before following answers d to first run i lt e =
     let told = told_of_best channels [] before following answers (Within (Between d)) to tt run in
     let prefix = run_split channels (Within (Between d)) to before (Answered answers ∷ following) run in
-    let first_there = shown_first_fit channels d told.shown told.batch told.before told.since prefix.at first (subst (λ (l : List Deal). IsMarketRun channels (Within (Between d)) l prefix.at) told.are prefix.before) in
-    not_told channels told.shown told.batch first_there answers i lt told.told e
+    let first_there = shown_first_fit channels d told.shown told.request told.before told.since prefix.at first (subst (λ (l : List Deal). IsMarketRun channels (Within (Between d)) l prefix.at) told.are prefix.before) in
+    not_told channels told.shown told.request.batch first_there answers i lt told.told e

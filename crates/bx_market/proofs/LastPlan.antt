@@ -15,7 +15,7 @@ abbrev others : List LiveEvent → List LiveEvent
 others [] = []
 others (Sold line ∷ events) = others events
 others (OnLink event ∷ events) = OnLink event ∷ others events
-others (WithoutLink ∷ events) = WithoutLink ∷ others events
+others (WithoutLink rules ∷ events) = WithoutLink rules ∷ others events
 others (HeardByRulesTwo octets ∷ events) = HeardByRulesTwo octets ∷ others events
 
 others_day : (events more : List LiveEvent) (d : Day) → live_day_after (others events ++ more) d ≡ live_day_after (events ++ more) d
@@ -25,7 +25,7 @@ others_day (x ∷ events) more d = others_day events more (live_happens d x).day
 
 others_sell : (events more : List LiveEvent) → sold_in row_on (others events ++ more) ≡ sold_in row_on more
 others_sell [] more = refl
-others_sell (WithoutLink ∷ events) more = others_sell events more
+others_sell (WithoutLink rules ∷ events) more = others_sell events more
 others_sell (x ∷ events) more = others_sell events more
 
 through_others : (channels : List Bool) (events : List LiveEvent) (d : Day) → RunsThrough channels row_on (others events) d (live_day_after events d)

@@ -12,3 +12,4 @@ mod Chosen
 mod Settled
 mod Best
 mod Hindered
+mod Untagged

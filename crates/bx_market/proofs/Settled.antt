@@ -1,5 +1,5 @@
 -- A booking of a batch that is chosen can be sold after those before it: all of them are carried together, and the day has a place for each.
-use Rattle.std.proofs.Common.{◌≡◌, ℕ, suc, ◌+◌, ◌-◌, ◌<◌, ◌≤◌, Bool, true, false, true≢false, cond, leb, List, [], ◌∷◌, ◌++◌, map, length, Result, Ok, refl, sym, ap, ap₂, ◌∙◌, subst, arith, append_assoc, ◌⊎◌, inl, inr}
+use Rattle.std.proofs.Common.{◌≡◌, ℕ, suc, ◌+◌, ◌-◌, ◌<◌, ◌≤◌, Bool, true, false, true≢false, cond, leb, Option, List, [], ◌∷◌, ◌++◌, map, length, Result, Ok, refl, sym, ap, ap₂, ◌∙◌, subst, arith, append_assoc, ◌⊎◌, inl, inr}
 use Rattle.std.proofs.lemmas.Bool.{cases_lt, leb-true, false_from_ne_true}
 use Rattle.std.proofs.lemmas.List.{append-nil, length-append, length-map, get_or_append_left, get_or-append_right, map-append}
 use Rattle.bx_base.specs.Bookings.{Row, row_at, AreBookings}
@@ -18,6 +18,7 @@ use Rattle.bx_market.specs.declared.market.Answer.{Answer}
 use Rattle.bx_market.specs.declared.market.Answer.TheVariants.{Accepted, Refused}
 use Rattle.bx_market.specs.Answers.{answer_at, IsToldOf, AreTold}
 use Rattle.bx_market.specs.Choices.{eligible_marks, is_eligible, IsBestBatch, HasNoRoom}
+use Rattle.bx_sales.specs.declared.tag.Tag.{Tag}
 use Rattle.bx_market.specs.Deals.{Deal, sold_of}
 use Rattle.bx_market.specs.Offers.{IsOffered, IsOfferSettled, why_not}
 use Rattle.bx_market.proofs.Batches.{sold_none, sold_more, sold_same}
@@ -204,19 +205,19 @@ module _ (channels : List Bool) (d : Day) (batch : List Row) (chosen : List Bool
           subst (λ (j : ℕ). IsToldOf channels d batch chosen j (is_in chosen j) (answer_at (answers ++ a ∷ []) j)) here (subst (IsToldOf channels d batch chosen i (is_in chosen i)) (sym is) told)
 
     -- so it is, by what is known of the booking
-    pub after_of : {W : Type 0} (dealt : W → List Deal → W → Type 0) (u v : W) (d2 : Day) (a : Answer) (b : Bool) → IsToldOf channels d batch chosen i b a → (b ≡ true → IsOfferSettled channels (row_at batch i) d1 d2 (Ok a)) → IsOffered dealt channels u v d batch sold (row_at batch i) d1 d2 (Ok a) → IsFollowing d2 a
-    after_of dealt u v d2 Accepted true told settled_so offered = settled_so refl
-    after_of dealt u v d2 Accepted false told settled_so offered = absurd told
-    after_of dealt u v d2 (Refused why) b told settled_so offered = offered.1
+    pub after_of : {W : Type 0} (dealt : W → List Deal → W → Type 0) (tag : Option Tag) (u v : W) (d2 : Day) (a : Answer) (b : Bool) → IsToldOf channels d batch chosen i b a → (b ≡ true → IsOfferSettled channels (row_at batch i) d1 d2 (Ok a)) → IsOffered dealt channels tag u v d batch sold (row_at batch i) d1 d2 (Ok a) → IsFollowing d2 a
+    after_of dealt tag u v d2 Accepted true told settled_so offered = settled_so refl
+    after_of dealt tag u v d2 Accepted false told settled_so offered = absurd told
+    after_of dealt tag u v d2 (Refused why) b told settled_so offered = offered.1
 
     -- one booking more is settled
-    pub step : AreBookings batch → {W : Type 0} (dealt : W → List Deal → W → Type 0) (u v : W) (d2 : Day) (a : Answer) (row : Row) (eligible is_chosen : Bool) → row ≡ row_at batch i → eligible ≡ is_eligible d batch i → is_chosen ≡ is_in chosen i → d2.moment ≡ d1.moment
-        → IsOffered dealt channels u v d batch (sold_of batch answers) row d1 d2 (Ok a) → (is_chosen ≡ true → IsOfferSettled channels row d1 d2 (Ok a)) → (is_chosen ≡ false → as_result a ≡ as_result (Refused (why_not d1.moment row eligible))) → AreSettled channels d batch chosen d2 (answers ++ a ∷ [])
-    step bookings dealt u v d2 a row eligible is_chosen row_is eligible_is chosen_is moment offered settled_so left_out =
+    pub step : AreBookings batch → {W : Type 0} (dealt : W → List Deal → W → Type 0) (tag : Option Tag) (u v : W) (d2 : Day) (a : Answer) (row : Row) (eligible is_chosen : Bool) → row ≡ row_at batch i → eligible ≡ is_eligible d batch i → is_chosen ≡ is_in chosen i → d2.moment ≡ d1.moment
+        → IsOffered dealt channels tag u v d batch (sold_of batch answers) row d1 d2 (Ok a) → (is_chosen ≡ true → IsOfferSettled channels row d1 d2 (Ok a)) → (is_chosen ≡ false → as_result a ≡ as_result (Refused (why_not d1.moment row eligible))) → AreSettled channels d batch chosen d2 (answers ++ a ∷ [])
+    step bookings dealt tag u v d2 a row eligible is_chosen row_is eligible_is chosen_is moment offered settled_so left_out =
         let so : is_in chosen i ≡ true → IsOfferSettled channels (row_at batch i) d1 d2 (Ok a) = λ h. subst (λ (r : Row). IsOfferSettled channels r d1 d2 (Ok a)) row_is (settled_so (chosen_is ∙ h)) in
         let left : is_in chosen i ≡ false → as_result a ≡ as_result (Refused (why_not d1.moment (row_at batch i) (is_eligible d batch i))) = λ h. left_out (chosen_is ∙ h) ∙ ap₂ (λ (r : Row) (e : Bool). as_result (Refused (why_not d1.moment r e))) row_is eligible_is in
         let told = told_next bookings d2 a (is_in chosen i) refl so left in
-        settled_next d2 a moment told (after_of dealt u v d2 a (is_in chosen i) told so (subst (λ (r : Row). IsOffered dealt channels u v d batch (sold_of batch answers) r d1 d2 (Ok a)) row_is offered))
+        settled_next d2 a moment told (after_of dealt tag u v d2 a (is_in chosen i) told so (subst (λ (r : Row). IsOffered dealt channels tag u v d batch (sold_of batch answers) r d1 d2 (Ok a)) row_is offered))
 
   -- all are settled
   pub all_told : (d1 : Day) (answers : List Answer) → AreSettled channels d batch chosen d1 answers → length answers ≡ length batch → AreTold channels d batch answers

@@ -19,7 +19,7 @@ use Rattle.bx_planfile.specs.OneBooking.{row_on}
 use Rattle.bx_sales.specs.Journal.{RunsThrough}
 use Rattle.bx_sales.proofs.Journal.{through_more}
 use Rattle.bx_market.specs.Deals.{Deal, Ran, Asked, Answered, acts_of}
-use Rattle.bx_market.specs.Stands.{Stand, Within, Filing, Telling, GoesByDeal, IsMarketRun, stand_day}
+use Rattle.bx_market.specs.Stands.{Stand, Within, Filing, Telling, asked_for, GoesByDeal, IsMarketRun, stand_day}
 use Rattle.bx_market.proofs.Steps.{acts_more}
 
 -- ---- the run by the clock sells nothing
@@ -105,13 +105,13 @@ module _ (channels : List Bool) where
     through = subst (λ (s : Stand). Through (logged_by (act ∷ [])) (day_at p) (stand_day s)) (sym e) (act_through p act link due);
   }
   keeps (Within (Between d)) to (Asked shown None) link (at, e) = quiet _ to (Within (Between d)) _ refl e tt refl
-  keeps (Within (Between d)) to (Asked shown (Some batch)) link (at, e) = quiet _ to (Filing d d batch []) _ refl e tt refl
-  keeps (Filing shown d batch sold) to (Ran (Logged (Sold line) true)) link (d1, is, e) = record { links = subst IsLinkStand (sym e) tt; through = (d1, is, ap stand_day e) }
-  keeps (Filing shown d batch sold) to (Ran (Logged (Sold line) false)) link e = quiet _ to (Within (Over d)) _ refl e tt refl
-  keeps (Filing shown d batch sold) to (Ran (Synced true)) link e = quiet _ to (Telling shown d batch sold) _ refl e tt refl
-  keeps (Filing shown d batch sold) to (Ran (Synced false)) link e = quiet _ to (Within (Over d)) _ refl e tt refl
-  keeps (Filing shown d batch sold) to (Answered answers) link (none, are, told, e) = quiet _ to (Within (Between d)) _ refl e tt refl
-  keeps (Telling shown d batch sold) to (Answered answers) link (are, told, e) = quiet _ to (Within (Between d)) _ refl e tt refl
+  keeps (Within (Between d)) to (Asked shown (Some request)) link (at, e) = quiet _ to (asked_for d request) _ refl e tt refl
+  keeps (Filing shown d tag batch sold) to (Ran (Logged (Sold line) true)) link (d1, is, under, e) = record { links = subst IsLinkStand (sym e) tt; through = (d1, is, ap stand_day e) }
+  keeps (Filing shown d tag batch sold) to (Ran (Logged (Sold line) false)) link e = quiet _ to (Within (Over d)) _ refl e tt refl
+  keeps (Filing shown d tag batch sold) to (Ran (Synced true)) link e = quiet _ to (Telling shown d tag batch sold) _ refl e tt refl
+  keeps (Filing shown d tag batch sold) to (Ran (Synced false)) link e = quiet _ to (Within (Over d)) _ refl e tt refl
+  keeps (Filing shown d tag batch sold) to (Answered answers) link (none, are, told, e) = quiet _ to (Within (Between d)) _ refl e tt refl
+  keeps (Telling shown d tag batch sold) to (Answered answers) link (are, told, e) = quiet _ to (Within (Between d)) _ refl e tt refl
   keeps from to deal link e = absurd e
 
   -- ---- all deals

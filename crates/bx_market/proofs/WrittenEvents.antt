@@ -12,8 +12,9 @@ use Rattle.bx_live.proofs.Steps as live
 use Rattle.bx_planfile.specs.OneBooking.{row_on}
 use Rattle.bx_sales.specs.Journal.{RunsThrough}
 use Rattle.bx_sales.proofs.Journal.{through_more}
+use Rattle.bx_sales.specs.Tags.{row_behind}
 use Rattle.bx_market.specs.Deals.{Deal, Ran, Asked, Answered, acts_of}
-use Rattle.bx_market.specs.Stands.{Stand, Within, Filing, Telling, GoesByDeal, IsMarketRun, stand_day}
+use Rattle.bx_market.specs.Stands.{Stand, Within, Filing, Telling, asked_for, GoesByDeal, IsMarketRun, stand_day}
 use Rattle.bx_market.specs.Told.{IsWrittenForEvent}
 use Rattle.bx_market.proofs.Steps.{acts_more}
 use Rattle.bx_market.proofs.Through.{IsLinkPlace, IsLinkStand, Through, keeps, links, no_sale}
@@ -118,13 +119,13 @@ module _ (channels : List Bool) (d : Day) where
   since_there : (acts : List Act) (from to : Stand) (deal : Deal) → StandsThere acts from → GoesByDeal channels from deal to → HasRunSince (acts ++ acts_of (deal ∷ [])) to
   since_there acts (Within p) to (Ran act) s (due, e) = named _ to _ e (one_act acts p act s.since due)
   since_there acts (Within (Between day)) to (Asked shown None) s (at, e) = named _ to (Within (Between day)) e (same_acts acts (Within (Between day)) s.since)
-  since_there acts (Within (Between day)) to (Asked shown (Some batch)) s (at, e) = named _ to (Filing day day batch []) e tt
-  since_there acts (Filing shown day batch sold) to (Ran (Logged (Sold line) true)) s (d1, is, e) = named _ to (Filing shown d1 batch (sold ++ row_on line ∷ [])) e tt
-  since_there acts (Filing shown day batch sold) to (Ran (Logged (Sold line) false)) s e = named _ to (Within (Over day)) e (inr (day, refl))
-  since_there acts (Filing shown day batch sold) to (Ran (Synced true)) s e = named _ to (Telling shown day batch sold) e tt
-  since_there acts (Filing shown day batch sold) to (Ran (Synced false)) s e = named _ to (Within (Over day)) e (inr (day, refl))
-  since_there acts (Filing shown day batch sold) to (Answered answers) s (none, are, told, e) = named _ to (Within (Between day)) e (inl (begins_anew acts day s.through))
-  since_there acts (Telling shown day batch sold) to (Answered answers) s (are, told, e) = named _ to (Within (Between day)) e (inl (begins_anew acts day s.through))
+  since_there acts (Within (Between day)) to (Asked shown (Some request)) s (at, e) = named _ to (asked_for day request) e tt
+  since_there acts (Filing shown day tag batch sold) to (Ran (Logged (Sold line) true)) s (d1, is, under, e) = named _ to (Filing shown d1 tag batch (sold ++ row_behind row_on line ∷ [])) e tt
+  since_there acts (Filing shown day tag batch sold) to (Ran (Logged (Sold line) false)) s e = named _ to (Within (Over day)) e (inr (day, refl))
+  since_there acts (Filing shown day tag batch sold) to (Ran (Synced true)) s e = named _ to (Telling shown day tag batch sold) e tt
+  since_there acts (Filing shown day tag batch sold) to (Ran (Synced false)) s e = named _ to (Within (Over day)) e (inr (day, refl))
+  since_there acts (Filing shown day tag batch sold) to (Answered answers) s (none, are, told, e) = named _ to (Within (Between day)) e (inl (begins_anew acts day s.through))
+  since_there acts (Telling shown day tag batch sold) to (Answered answers) s (are, told, e) = named _ to (Within (Between day)) e (inl (begins_anew acts day s.through))
   since_there acts from to deal s e = absurd e
 
   stands_there : (acts : List Act) (from to : Stand) (deal : Deal) → StandsThere acts from → GoesByDeal channels from deal to → StandsThere (acts ++ acts_of (deal ∷ [])) to

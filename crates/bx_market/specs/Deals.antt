@@ -3,14 +3,15 @@ use Rattle.std.specs.Prelude.{List, [], ◌∷◌, Option}
 use Rattle.bx_base.specs.Bookings.{Row}
 use Rattle.bx_day.specs.Day.{Day}
 use Rattle.bx_live.specs.Acts.{Act}
+use Rattle.bx_market.specs.declared.market.Request.{Request}
 use Rattle.bx_market.specs.declared.market.Answer.{Answer}
 use Rattle.bx_market.specs.declared.market.Answer.TheVariants.{Accepted, Refused}
 
 pub data Deal : Type 0 where
   -- an act of the run by the clock
   Ran : (act : Act) → Deal
-  -- the market was shown this day and asked for a batch of bookings, and had one or none
-  Asked : (shown : Day) (batch : Option (List Row)) → Deal
+  -- the market was shown this day and asked for a batch of bookings, and had one, maybe under a key, or none
+  Asked : (shown : Day) (request : Option Request) → Deal
   -- its customer was told which of them are sold
   Answered : (answers : List Answer) → Deal
 
@@ -18,7 +19,7 @@ pub data Deal : Type 0 where
 abbrev pub acts_of : List Deal → List Act
 acts_of [] = []
 acts_of (Ran act ∷ deals) = act ∷ acts_of deals
-acts_of (Asked shown batch ∷ deals) = acts_of deals
+acts_of (Asked shown request ∷ deals) = acts_of deals
 acts_of (Answered answers ∷ deals) = acts_of deals
 
 abbrev pub all_ran : List Act → List Deal

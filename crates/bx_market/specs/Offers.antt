@@ -1,5 +1,5 @@
 -- Private: how a batch ends.
-use Rattle.std.specs.Prelude.{◌≡◌, ◌≤◌, ℕ, Bool, true, List, [], ◌∷◌, ◌++◌, length, nat_le, Result, Ok, Err, if◌then◌else◌, false}
+use Rattle.std.specs.Prelude.{◌≡◌, ◌≤◌, ℕ, Bool, true, List, [], ◌∷◌, ◌++◌, length, nat_le, Option, Result, Ok, Err, if◌then◌else◌, false}
 use Rattle.bx_base.specs.Bookings.{Row}
 use Rattle.bx_base.specs.declared.bookings.TheConstants.{MAX_BOOKINGS}
 use Rattle.bx_colour.specs.Colouring.{FitsChannels}
@@ -9,6 +9,7 @@ use Rattle.bx_live.specs.Acts.{begins_none}
 use Rattle.bx_live.specs.Runs.{Over, Between}
 use Rattle.bx_sales.specs.Selling.{rows_with, marks_with, IsSold, IsOtherPlan}
 use Rattle.bx_sales.specs.declared.selling.NoSale.{NoSale}
+use Rattle.bx_sales.specs.declared.tag.Tag.{Tag}
 use Rattle.bx_sales.specs.declared.selling.NoSale.TheVariants.{Late, Full, NoChannel, OtherChannels, Memory}
 use Rattle.bx_market.specs.declared.market.Answer.{Answer}
 use Rattle.bx_market.specs.declared.market.Answer.TheVariants.{Accepted, Refused}
@@ -29,11 +30,12 @@ module _ {W : Type 0} (dealt : W → List Deal → W → Type 0) (channels : Lis
   OrOver from to (Ok _) = Asks dealt channels old new from to
   OrOver from to (Err fault) = (d : Day) × Asks dealt channels old new from (Within (Over d))
 
-  -- a booking of a batch was offered: it is sold and in the journal, or refused, and nothing changed
+module _ {W : Type 0} (dealt : W → List Deal → W → Type 0) (channels : List Bool) (tag : Option Tag) (old new : W) where
+  -- a booking of a batch was offered, under this key or none: it is sold and in the journal, or refused, and nothing changed
   abbrev pub IsOffered : Day → List Row → List Row → Row → Day → Day → Result Answer CannotLog → Type 0
-  IsOffered shown batch sold row d d1 (Ok Accepted) = Asks dealt channels old new (Filing shown d batch sold) (Filing shown d1 batch (sold ++ row ∷ []))
-  IsOffered shown batch sold row d d1 (Ok (Refused why)) = Asks dealt channels old new (Filing shown d batch sold) (Filing shown d1 batch sold) × (d1 ≡ d)
-  IsOffered shown batch sold row d d1 (Err fault) = (over : Day) × Asks dealt channels old new (Filing shown d batch sold) (Within (Over over))
+  IsOffered shown batch sold row d d1 (Ok Accepted) = Asks dealt channels old new (Filing shown d tag batch sold) (Filing shown d1 tag batch (sold ++ row ∷ []))
+  IsOffered shown batch sold row d d1 (Ok (Refused why)) = Asks dealt channels old new (Filing shown d tag batch sold) (Filing shown d1 tag batch sold) × (d1 ≡ d)
+  IsOffered shown batch sold row d d1 (Err fault) = (over : Day) × Asks dealt channels old new (Filing shown d tag batch sold) (Within (Over over))
 
   -- in any batch, whatever was sold of it before
   abbrev pub IsOfferedInAny : Row → Day → Day → Result Answer CannotLog → Type 0
@@ -43,13 +45,13 @@ module _ {W : Type 0} (dealt : W → List Deal → W → Type 0) (old new : W) w
   -- the customer of any batch is told, to whom this may be told; what is sold of it is on the disk by then
   abbrev pub TellsOfAny : List Answer → Bool → Result (Unit {0}) CannotLog → Type 0
   TellsOfAny answers is_any_sold result =
-      (channels : List Bool) (shown d : Day) (batch : List Row) → AreTold channels shown batch answers
+      (channels : List Bool) (shown d : Day) (tag : Option Tag) (batch : List Row) → AreTold channels shown batch answers
       → (is_any_sold ≡ false → sold_of batch answers ≡ [])
-      → OrOver dealt channels old new (Filing shown d batch (sold_of batch answers)) (Within (Between d)) result
+      → OrOver dealt channels old new (Filing shown d tag batch (sold_of batch answers)) (Within (Between d)) result
 
   -- the customer is told that memory ran out
   abbrev pub TellsOfMemory : Day → List Row → Type 0
-  TellsOfMemory d batch = (channels : List Bool) → Asks dealt channels old new (Filing d d batch []) (Within (Between d))
+  TellsOfMemory d batch = (channels : List Bool) (tag : Option Tag) → Asks dealt channels old new (Filing d d tag batch []) (Within (Between d))
 
 -- what has become of a booking that was offered: it is sold; or why it is not
 abbrev pub IsOfferSettled : List Bool → Row → Day → Day → Result Answer CannotLog → Type 0

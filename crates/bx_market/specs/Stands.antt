@@ -9,6 +9,9 @@ use Rattle.bx_live.specs.Held.{has_call}
 use Rattle.bx_live.specs.Runs.{Place, Between, Over, IsDue, next, day_at}
 use Rattle.bx_planfile.specs.OneBooking.{row_on}
 use Rattle.bx_sales.specs.Selling.{IsSold}
+use Rattle.bx_sales.specs.Tags.{row_behind, tag_of}
+use Rattle.bx_sales.specs.declared.tag.Tag.{Tag}
+use Rattle.bx_market.specs.declared.market.Request.{Request}
 use Rattle.bx_market.specs.Answers.{AreTold}
 use Rattle.bx_market.specs.Deals.{Deal, Ran, Asked, Answered, sold_of}
 
@@ -16,40 +19,44 @@ use Rattle.bx_market.specs.Deals.{Deal, Ran, Asked, Answered, sold_of}
 pub data Stand : Type 0 where
   -- in the run by the clock, at this place
   Within : (p : Place) → Stand
-  -- a batch was asked for where the day was shown, and these of it are sold so far, each in the journal
-  Filing : (shown d : Day) (batch sold : List Row) → Stand
+  -- a batch was asked for where the day was shown, under this key or none, and these of it are sold so far, each in the journal
+  Filing : (shown d : Day) (tag : Option Tag) (batch sold : List Row) → Stand
   -- what is sold of the batch is on the disk
-  Telling : (shown d : Day) (batch sold : List Row) → Stand
+  Telling : (shown d : Day) (tag : Option Tag) (batch sold : List Row) → Stand
 
 -- the day as far as its events and sales are logged
 abbrev pub stand_day : Stand → Day
 stand_day (Within p) = day_at p
-stand_day (Filing shown d batch sold) = d
-stand_day (Telling shown d batch sold) = d
+stand_day (Filing shown d tag batch sold) = d
+stand_day (Telling shown d tag batch sold) = d
 
--- one booking more is sold and in the journal; or it could not be logged, and nothing more is done
-abbrev pub FiledSale : List Bool → Day → Day → List Row → List Row → Row → Bool → Stand → Type 0
-FiledSale channels shown d batch sold row true to = (d1 : Day) × IsSold channels row d d1 × (to ≡ Filing shown d1 batch (sold ++ row ∷ []))
-FiledSale channels shown d batch sold row false to = to ≡ Within (Over d)
+-- one booking more is sold, and in the journal with the key of its batch; or it could not be logged, and nothing more is done
+abbrev pub FiledSale : List Bool → Day → Day → Option Tag → List Row → List Row → List ℕ → Bool → Stand → Type 0
+FiledSale channels shown d tag batch sold line true to =
+    (d1 : Day) × IsSold channels (row_behind row_on line) d d1 × (tag_of line ≡ tag) × (to ≡ Filing shown d1 tag batch (sold ++ row_behind row_on line ∷ []))
+FiledSale channels shown d tag batch sold line false to = to ≡ Within (Over d)
 
 -- all that is sold of the batch is on the disk; or it may not be, and nothing more is done
-abbrev pub synced : Day → Day → List Row → List Row → Bool → Stand
-synced shown d batch sold true = Telling shown d batch sold
-synced shown d batch sold false = Within (Over d)
+abbrev pub synced : Day → Day → Option Tag → List Row → List Row → Bool → Stand
+synced shown d tag batch sold true = Telling shown d tag batch sold
+synced shown d tag batch sold false = Within (Over d)
 
-abbrev pub asked_stand : Day → Option (List Row) → Stand
+abbrev pub asked_for : Day → Request → Stand
+asked_for d request = Filing d d request.tag request.batch []
+
+abbrev pub asked_stand : Day → Option Request → Stand
 asked_stand d None = Within (Between d)
-asked_stand d (Some batch) = Filing d d batch []
+asked_stand d (Some request) = asked_for d request
 
 -- A deal leads from one stand to another. Between two seconds the market is shown the day so far, and asked. Each booking that is sold is logged, one sync
 -- follows, and only then the customer is answered, of the best choice among the batch; where nothing is sold, no sync is wanted.
 abbrev pub GoesByDeal : List Bool → Stand → Deal → Stand → Type 0
 GoesByDeal channels (Within p) (Ran act) to = IsDue p act × (to ≡ Within (next p act))
-GoesByDeal channels (Within (Between d)) (Asked shown batch) to = (shown ≡ d) × (to ≡ asked_stand d batch)
-GoesByDeal channels (Filing shown d batch sold) (Ran (Logged (Sold line) done)) to = FiledSale channels shown d batch sold (row_on line) done to
-GoesByDeal channels (Filing shown d batch sold) (Ran (Synced done)) to = to ≡ synced shown d batch sold done
-GoesByDeal channels (Filing shown d batch sold) (Answered answers) to = (sold ≡ []) × (sold_of batch answers ≡ []) × AreTold channels shown batch answers × (to ≡ Within (Between d))
-GoesByDeal channels (Telling shown d batch sold) (Answered answers) to = (sold_of batch answers ≡ sold) × AreTold channels shown batch answers × (to ≡ Within (Between d))
+GoesByDeal channels (Within (Between d)) (Asked shown request) to = (shown ≡ d) × (to ≡ asked_stand d request)
+GoesByDeal channels (Filing shown d tag batch sold) (Ran (Logged (Sold line) done)) to = FiledSale channels shown d tag batch sold line done to
+GoesByDeal channels (Filing shown d tag batch sold) (Ran (Synced done)) to = to ≡ synced shown d tag batch sold done
+GoesByDeal channels (Filing shown d tag batch sold) (Answered answers) to = (sold ≡ []) × (sold_of batch answers ≡ []) × AreTold channels shown batch answers × (to ≡ Within (Between d))
+GoesByDeal channels (Telling shown d tag batch sold) (Answered answers) to = (sold_of batch answers ≡ sold) × AreTold channels shown batch answers × (to ≡ Within (Between d))
 GoesByDeal _ _ _ _ = ⊥
 
 -- the deals of a run from one stand to another

@@ -6,7 +6,7 @@ use Rattle.bx_colour.specs.Colouring.{IsFirstFit}
 use Rattle.bx_day.specs.Course.{exchange_sent, exchange_text}
 use Rattle.bx_day.specs.Day.{Day, opening}
 use Rattle.bx_day.specs.Outages.{live_day_after}
-use Rattle.bx_events.specs.Events.{Event, LiveEvent, OnLink}
+use Rattle.bx_events.specs.Events.{Event, LiveEvent, OnLink, Sold}
 use Rattle.bx_live.specs.Acts.{Act, Wrote, logged_by}
 use Rattle.bx_live.specs.Written.{filed, AreHeard}
 use Rattle.bx_live.specs.Runs.{Between}
@@ -14,6 +14,9 @@ use Rattle.bx_planfile.specs.OneBooking.{row_on}
 use Rattle.bx_sales.specs.Journal.{RunsThrough, sold_in}
 use Rattle.bx_sales.specs.Sold.{IsFirstFitDay}
 use Rattle.bx_sales.specs.declared.selling.NoSale.TheVariants.{Memory, OtherChannels}
+use Rattle.bx_sales.specs.Tags.{tag_of}
+use Rattle.bx_sales.specs.declared.tag.Tag.{Tag}
+use Rattle.bx_market.specs.declared.market.Request.{Request}
 use Rattle.bx_market.specs.declared.market.Answer.{Answer}
 use Rattle.bx_market.specs.declared.market.Answer.TheVariants.{Accepted, Refused}
 use Rattle.bx_market.specs.Answers.{answer_at, AreTold}
@@ -21,16 +24,23 @@ use Rattle.bx_market.specs.Choices.{IsBestBatch}
 use Rattle.bx_market.specs.Deals.{Deal, Ran, Asked, Answered, acts_of, sold_of}
 use Rattle.bx_market.specs.Stands.{Stand, Within, IsMarketRun, stand_day}
 
+-- each sale in a journal has this key, or none has one
+abbrev pub AreUnder : Option Tag → List LiveEvent → Type 0
+AreUnder tag [] = Unit {0}
+AreUnder tag (Sold line ∷ events) = (tag_of line ≡ tag) × AreUnder tag events
+AreUnder tag (event ∷ events) = AreUnder tag events
+
 -- what a customer is told after these deals is logged: since the batch was asked for, just those of its bookings were logged as
--- sold that are answered as accepted; where there are such, all that is logged is on the disk
+-- sold that are answered as accepted, each with the key under which it was asked for; where there are such, all that is logged is on the disk
 pub record IsToldOnLog (deals : List Deal) (answers : List Answer) : Type 0 where
   pub shown : Day
-  pub batch : List Row
+  pub request : Request
   pub before : List Deal
   pub since : List Deal
-  pub are : deals ≡ before ++ Asked shown (Some batch) ∷ since
-  pub sold : sold_in row_on (logged_by (acts_of since)) ≡ sold_of batch answers
-  pub on_disk : (sold_of batch answers ≡ []) ⊎ ((filed (acts_of deals)).more ≡ [])
+  pub are : deals ≡ before ++ Asked shown (Some request) ∷ since
+  pub sold : sold_in row_on (logged_by (acts_of since)) ≡ sold_of request.batch answers
+  pub under : AreUnder request.tag (logged_by (acts_of since))
+  pub on_disk : (sold_of request.batch answers ≡ []) ⊎ ((filed (acts_of deals)).more ≡ [])
 
 -- whether a booking is told as accepted
 abbrev pub is_sold : Answer → Bool
@@ -45,12 +55,12 @@ IsUnhindered answer = ¬ (answer ≡ Refused Memory) × ¬ (answer ≡ Refused O
 -- those promises pays more than what is accepted. Where memory ran out some are told so
 pub record IsToldOfBest (channels : List Bool) (deals : List Deal) (answers : List Answer) : Type 0 where
   pub shown : Day
-  pub batch : List Row
+  pub request : Request
   pub before : List Deal
   pub since : List Deal
-  pub are : deals ≡ before ++ Asked shown (Some batch) ∷ since
-  pub told : AreTold channels shown batch answers
-  pub best : ((i : ℕ) → i < length batch → IsUnhindered (answer_at answers i)) → IsBestBatch channels shown batch (map is_sold answers)
+  pub are : deals ≡ before ++ Asked shown (Some request) ∷ since
+  pub told : AreTold channels shown request.batch answers
+  pub best : ((i : ℕ) → i < length request.batch → IsUnhindered (answer_at answers i)) → IsBestBatch channels shown request.batch (map is_sold answers)
 
 abbrev pub IsBestOfEachBatch : Type 0
 IsBestOfEachBatch = (channels : List Bool) (d : Day) (before following : List Deal) (answers : List Answer) (to : Stand) →

@@ -8,5 +8,5 @@ mod offering;
 mod running;
 
 pub use choosing::is_promised;
-pub use market::{Answer, Market};
+pub use market::{Answer, Market, Request};
 pub use running::run_market;

@@ -7,7 +7,7 @@ ghost use Rattle.bx_market.specs.Deals.{Deal, Asked, Answered, all_ran};
 use bx_base::Bookings;
 use bx_day::Exchange;
 use bx_live::World;
-use bx_sales::NoSale;
+use bx_sales::{NoSale, Tag};
 
 /// What a customer is told of one booking.
 #[derive(Clone, Copy, Debug, PartialEq, Eq)]
@@ -25,13 +25,20 @@ impl Default for Answer {
     }
 }
 
+/// A batch of bookings that a customer asks for, and the key under which that is done, where there is one.
+#[derive(Drop)]
+pub struct Request {
+    pub tag: Option<Tag>,
+    pub batch: Bookings,
+}
+
 /// A world in which customers ask for bookings. `dealt` says which deals may lie between two states of it.
 pub trait Market: World {
     ghost dealt: { Self → List Deal → Self → Type 0 };
 
     /// The next batch that a customer asks for, if one waits. It does not wait for one. It is shown the exchange between two seconds, so that
     /// those who only ask how the day stands are answered of it.
-    fn ask(&mut self, exchange: &Exchange) -> Option<Bookings>
+    fn ask(&mut self, exchange: &Exchange) -> Option<Request>
         ensures { dealt self.old (Asked exchange.now result ∷ []) self.new };
 
     /// Tells the customer of the last batch which of its bookings are accepted, in the order of its rows.

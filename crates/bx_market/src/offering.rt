@@ -3,35 +3,38 @@
 ghost use Rattle.std.specs.Prelude.{◌≡◌, ◌≤◌, ◌<◌, [], true, false, length, Ok, OnOk};
 ghost use Rattle.bx_live.specs.Runs.{Between};
 ghost use Rattle.bx_market.specs.Choices.{eligible_marks, IsBestBatch};
-ghost use Rattle.bx_market.specs.Stands.{Within, Filing};
+ghost use Rattle.bx_market.specs.Stands.{Within, Filing, asked_for};
 ghost use Rattle.bx_market.specs.Offers.{IsOfferSettled, OrOver, why_not, IsOfferedInAny, TellsOfAny, TellsOfMemory};
 
 use crate::choosing::{Choice, choose};
-use crate::market::{Answer, Market};
+use crate::market::{Answer, Market, Request};
 use arrayvec::ArrayVec;
 use bx_base::{Booking, Bookings, ChannelSet, MAX_BOOKINGS};
 use bx_day::Exchange;
 use bx_events::LiveEvent;
 use bx_live::CannotLog;
 use bx_planfile::spell_booking;
-use bx_sales::{NoSale, sell};
+use bx_sales::{NoSale, Tag, sale_line, sell};
 use std::alloc::{AllocError, Global};
 
-/// Sells one booking of a batch, where it fits beside all that is promised, and puts it in the journal.
+/// Sells one booking of a batch, where it fits beside all that is promised, and puts it in the journal, with the key of the batch.
 fn offer<W: Market>(
     alloc: Global,
     exchange: &mut Exchange,
     world: &mut W,
     channels: ChannelSet,
+    tag: Option<Tag>,
     booking: Booking,
 ) -> Result<Answer, CannotLog>
-    ensures offered { IsOfferedInAny W.dealt channels world.old world.new booking exchange.old exchange.new result }
+    ensures offered { IsOfferedInAny W.dealt channels tag world.old world.new booking exchange.old exchange.new result }
     ensures moment { exchange.new.moment ≡ exchange.old.moment }
     ensures settled { IsOfferSettled channels booking exchange.old exchange.new result }
 {
+    // Read for the prover alone, which learns from it that this is a booking.
+    let _start = booking.start();
     match sell(alloc, exchange, channels, &booking) {
         Ok(()) => {
-            let line = spell_booking(booking);
+            let line = sale_line(tag, &spell_booking(booking));
             world.log(LiveEvent::Sold(&line))?;
             Ok(Answer::Accepted)
         }
@@ -58,17 +61,18 @@ fn settle<W: Market>(
     exchange: &mut Exchange,
     world: &mut W,
     channels: ChannelSet,
+    tag: Option<Tag>,
     booking: Booking,
     is_eligible: bool,
     is_chosen: bool,
 ) -> Result<Answer, CannotLog>
-    ensures offered { IsOfferedInAny W.dealt channels world.old world.new booking exchange.old exchange.new result }
+    ensures offered { IsOfferedInAny W.dealt channels tag world.old world.new booking exchange.old exchange.new result }
     ensures moment { exchange.new.moment ≡ exchange.old.moment }
     ensures chosen { is_chosen ≡ true → IsOfferSettled channels booking exchange.old exchange.new result }
     ensures left_out { is_chosen ≡ false → result ≡ Ok (Answer.Refused (why_not exchange.old.moment booking is_eligible)) }
 {
     if is_chosen {
-        return offer(alloc, exchange, world, channels, booking);
+        return offer(alloc, exchange, world, channels, tag, booking);
     }
     let why = why_not(exchange.moment(), booking, is_eligible);
     Ok(Answer::Refused(why))
@@ -103,12 +107,13 @@ fn sell_chosen<W: Market>(
     exchange: &mut Exchange,
     world: &mut W,
     channels: ChannelSet,
+    tag: Option<Tag>,
     batch: &Bookings,
     choice: &Choice,
 ) -> Result<(), CannotLog>
     requires eligible { choice.now.eligible.items ≡ eligible_marks exchange.old.moment (length exchange.old.entries) batch.now }
     requires best { IsBestBatch channels exchange.old batch.now choice.now.chosen.items }
-    ensures sold { OrOver W.dealt channels world.old world.new (Filing exchange.old exchange.old batch.now []) (Within (Between exchange.new)) result }
+    ensures sold { OrOver W.dealt channels world.old world.new (Filing exchange.old exchange.old tag batch.now []) (Within (Between exchange.new)) result }
     ensures moment { OnOk result (exchange.new.moment ≡ exchange.old.moment) }
 {
     let mut answers = ArrayVec::<Answer, MAX_BOOKINGS>::new();
@@ -119,6 +124,7 @@ fn sell_chosen<W: Market>(
             exchange,
             world,
             channels,
+            tag,
             batch.nth(index),
             choice.is_eligible(index),
             choice.is_chosen(index),
@@ -160,13 +166,14 @@ pub(crate) fn offer_all<W: Market>(
     exchange: &mut Exchange,
     world: &mut W,
     channels: ChannelSet,
-    batch: &Bookings,
+    request: &Request,
 ) -> Result<(), CannotLog>
-    ensures sold { OrOver W.dealt channels world.old world.new (Filing exchange.old exchange.old batch.now []) (Within (Between exchange.new)) result }
+    ensures sold { OrOver W.dealt channels world.old world.new (asked_for exchange.old request.now) (Within (Between exchange.new)) result }
     ensures moment { OnOk result (exchange.new.moment ≡ exchange.old.moment) }
 {
+    let Request { tag, batch } = request;
     match choose(alloc, exchange, channels, batch) {
-        Ok(choice) => sell_chosen(alloc, exchange, world, channels, batch, &choice),
+        Ok(choice) => sell_chosen(alloc, exchange, world, channels, *tag, batch, &choice),
         Err(AllocError) => {
             tell_of_memory(world, exchange, batch);
             Ok(())

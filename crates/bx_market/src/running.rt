@@ -28,8 +28,8 @@ fn ask_once<W: Market>(
     ensures moment { OnOk result (exchange.new.moment ≡ exchange.old.moment) }
 {
     match world.ask(exchange) {
-        Some(batch) => {
-            offer_all(alloc, exchange, world, channels, &batch)?;
+        Some(request) => {
+            offer_all(alloc, exchange, world, channels, &request)?;
             Ok(true)
         }
         None => Ok(false),

@@ -8,6 +8,7 @@ mod Firsts
 pub mod StayingFirst
 pub mod Beside
 pub mod Fitting
+mod Tags
 pub mod Rows
 pub mod OneMore
 mod FreeChannels

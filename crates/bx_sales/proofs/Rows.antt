@@ -15,6 +15,7 @@ use Rattle.bx_sales.proofs.Sales.{one_more, joined}
 use Rattle.bx_sales.proofs.Told.{nothing_more, twice_not, same_marks, rows_now}
 use Rattle.bx_sales.specs.Journal.{sold_in, RunsThrough, HasSoldRows}
 use Rattle.bx_sales.specs.Selling.{rows_of, marks_of, rows_with, marks_with}
+use Rattle.bx_sales.specs.Tags.{row_behind}
 
 same_bools : (xs ys : List Bool) → length xs ≡ length ys → ((i : ℕ) → i < length ys → get_or xs i false ≡ get_or ys i false) → xs ≡ ys
 same_bools [] [] count same = refl
@@ -50,12 +51,12 @@ rows_sold channels row_on [] before rows assigned d now count bookings carries i
     }
 rows_sold channels row_on (OnLink event ∷ events) before rows assigned d now count bookings carries is through =
     rows_sold channels row_on events (before ++ OnLink event ∷ []) rows assigned (live_happens d (OnLink event)).day now count bookings carries (ap (λ (x : Day). (live_happens x (OnLink event)).day) is ∙ one_more before (OnLink event) (opening rows assigned)) through
-rows_sold channels row_on (WithoutLink ∷ events) before rows assigned d now count bookings carries is through =
-    rows_sold channels row_on events (before ++ WithoutLink ∷ []) rows assigned (live_happens d WithoutLink).day now count bookings carries (ap (λ (x : Day). (live_happens x WithoutLink).day) is ∙ one_more before WithoutLink (opening rows assigned)) through
+rows_sold channels row_on (WithoutLink rules ∷ events) before rows assigned d now count bookings carries is through =
+    rows_sold channels row_on events (before ++ WithoutLink rules ∷ []) rows assigned (live_happens d (WithoutLink rules)).day now count bookings carries (ap (λ (x : Day). (live_happens x (WithoutLink rules)).day) is ∙ one_more before (WithoutLink rules) (opening rows assigned)) through
 rows_sold channels row_on (HeardByRulesTwo octets ∷ events) before rows assigned d now count bookings carries is through =
     rows_sold channels row_on events (before ++ HeardByRulesTwo octets ∷ []) rows assigned (live_happens d (HeardByRulesTwo octets)).day now count bookings carries (ap (λ (x : Day). (live_happens x (HeardByRulesTwo octets)).day) is ∙ one_more before (HeardByRulesTwo octets) (opening rows assigned)) through
 rows_sold channels row_on (Sold line ∷ events) before rows assigned d now count bookings carries is through =
-    let row = row_on line in
+    let row = row_behind row_on line in
     let rest = sold_in row_on events in
     let sold = through.0 in
     let s = through.1 in

@@ -7,21 +7,22 @@ use Rattle.bx_day.specs.Day.{Day, opening}
 use Rattle.bx_day.specs.Outages.{live_happens, live_day_after}
 use Rattle.bx_events.specs.Events.{LiveEvent, OnLink, WithoutLink, Sold, HeardByRulesTwo}
 use Rattle.bx_sales.specs.Selling.{rows_of, marks_of, IsSold}
+use Rattle.bx_sales.specs.Tags.{row_behind}
 
 -- the bookings that were sold, by what their lines say
 abbrev pub sold_in : (List ℕ → Row) → List LiveEvent → List Row
 sold_in row_on [] = []
-sold_in row_on (Sold line ∷ events) = row_on line ∷ sold_in row_on events
+sold_in row_on (Sold line ∷ events) = row_behind row_on line ∷ sold_in row_on events
 sold_in row_on (OnLink event ∷ events) = sold_in row_on events
-sold_in row_on (WithoutLink ∷ events) = sold_in row_on events
+sold_in row_on (WithoutLink rules ∷ events) = sold_in row_on events
 sold_in row_on (HeardByRulesTwo octets ∷ events) = sold_in row_on events
 
 -- a day that goes through these, and goes on with a longer plan at each sale
 abbrev pub RunsThrough : List Bool → (List ℕ → Row) → List LiveEvent → Day → Day → Type 0
 RunsThrough channels row_on [] old new = new ≡ old
-RunsThrough channels row_on (Sold line ∷ events) old new = (sold : Day) × IsSold channels (row_on line) old sold × RunsThrough channels row_on events sold new
+RunsThrough channels row_on (Sold line ∷ events) old new = (sold : Day) × IsSold channels (row_behind row_on line) old sold × RunsThrough channels row_on events sold new
 RunsThrough channels row_on (OnLink event ∷ events) old new = RunsThrough channels row_on events (live_happens old (OnLink event)).day new
-RunsThrough channels row_on (WithoutLink ∷ events) old new = RunsThrough channels row_on events (live_happens old WithoutLink).day new
+RunsThrough channels row_on (WithoutLink rules ∷ events) old new = RunsThrough channels row_on events (live_happens old (WithoutLink rules)).day new
 RunsThrough channels row_on (HeardByRulesTwo octets ∷ events) old new = RunsThrough channels row_on events (live_happens old (HeardByRulesTwo octets)).day new
 
 -- the plan of the morning with all that was sold, coloured once, has the day by just these events

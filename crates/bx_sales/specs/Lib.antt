@@ -9,3 +9,5 @@ pub mod Firsts
 pub mod Changing
 pub mod StayingFirst
 pub mod Recolouring
+pub mod Tags
+pub mod TagSizes

@@ -1,6 +1,6 @@
 use Rattle.std.proofs.Common.{ℕ, List, ap, ◌∙◌}
 use Rattle.bx_calls.specs.Sending.{reply_list, spelled}
-use Rattle.bx_calls.specs.declared.rules.Rules.TheVariants.{Two}
+use Rattle.bx_events.specs.declared.rules.Rules.TheVariants.{Two}
 use Rattle.bx_day.specs.Run.{receive_octets_by}
 use Rattle.bx_frames.specs.Courses.{reply_messages}
 use Rattle.bx_audit.proofs.Audited.{same_reply, captured_by_two}

@@ -1,7 +1,7 @@
 use Rattle.std.proofs.Common.{Err, refl}
 use Rattle.std.proofs.lemmas.Result.{err_from_is_err_and}
 use Rattle.bx_devices.specs.Watching.{device_of, is_faulted}
-use Rattle.bx_day_openings.specs.Selling.{day_goes, IsAfter}
+use Rattle.bx_day_openings.specs.Selling.{day_goes, tags_go, IsAfter}
 use Rattle.bx_day_openings.specs.declared.selling.Selling.{Selling}
 use Rattle.bx_day_openings.proofs.ToldJournals.{not_followed, followed_whole}
 use Rattle.bx_day_openings.proofs.Replays.{followed_as, bad_sale, went, stopped, goes_on, no_replay}
@@ -39,3 +39,13 @@ returns-clause-through g c =
     rw (← fresh.ensures.exchange)
     (goes_on c.args.channels c.args.wanted.now before fresh.result.exchange day c.in_ok-exchange.exchange c.journal_read.result c.in_ok-journal_read.field-0 c.in_ok-journal_read.was c.in_ok-exchange.ensures.whole.1
     (followed_whole (day_goes c.args.channels) (is_faulted read.new.device) before after c.args.wanted.now fresh.result.exchange day c.args.name read.result c.journal_read.result c.journal_read.ensures followed))
+
+pub returns-clause-tagged : goal.returns-clause-tagged
+returns-clause-tagged g c =
+    let read = c.read_journal-whole in
+    let fresh = c.new-selling in
+    let before = g.R.Read.remaining (device_of c.args.journal.now) in
+    let after = g.R.Read.remaining (device_of read.new.device) in
+    let followed = followed_as IsAfter tags_go (λ (s : Selling). s.tags.items) (is_faulted read.new.device) before after c.args.wanted.now fresh.result read.new.follower
+    (λ events h. h.2 c.in_ok-exchange.ensures.whole.0) read.result read.ensures.read in
+    rw (← fresh.ensures.tags, c.in_ok-exchange.ensures.whole.2) followed

@@ -8,7 +8,7 @@ use Rattle.bx_market.proofs.Steps.{one_asked}
 use Rattle.bx_market.proofs.offering.tell_of_memory.Goals as goal
 
 pub returns : goal.returns
-returns g c channels =
+returns g c channels tag =
     let d = c.args.exchange.now in
     let b = c.args.batch.now in
     let l = c.loop-index in
@@ -20,5 +20,5 @@ returns g c channels =
       late = λ i lt late. l.invariant.late i (omega (arith, lt, count)) (omega (arith, late, now));
       memory = λ i lt later. l.invariant.memory i (omega (arith, lt, count)) (omega (arith, later, now));
     } in
-    one_asked (Filing d d b []) (Within (Between d)) (Answered c.deref.result.now) c.answer.ensures
+    one_asked (Filing d d tag b []) (Within (Between d)) (Answered c.deref.result.now) c.answer.ensures
     (refl, ap (sold_of b) e ∙ none_of_memory d b l.answers.items told, inr (subst (AreToldOfMemory d b) (sym e) told), refl) refl
