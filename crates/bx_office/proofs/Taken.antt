@@ -1,5 +1,5 @@
 -- A head that was read and let through.
-use Rattle.std.proofs.Common.{◌≡◌, subst, sym, ap, ◌∙◌, inl, inr, ◌⊎◌, ℕ, List, drop}
+use Rattle.std.proofs.Common.{◌≡◌, subst, sym, ap, ◌∙◌, inl, inr, ◌⊎◌, ℕ, List, drop, Ok}
 use Rattle.httparse.specs.declared.spans.HeaderSpan.{HeaderSpan}
 use Rattle.httparse.specs.declared.spans.RequestSpans.{RequestSpans}
 use Rattle.http1.specs.Conn.{ReadsPiece}
@@ -12,7 +12,7 @@ use Rattle.http1.specs.declared.conn.Reading.{Reading}
 use Rattle.http1.specs.declared.conn.Reading.TheVariants as Reads
 use Rattle.http1.specs.declared.server.Server.{Server}
 use Rattle.bx_office.specs.Clients.{IsAdmitted, IsDueAfter}
-use Rattle.bx_office.specs.Inside.{IsUndue, IsBegun, IsBodyBegun}
+use Rattle.bx_office.specs.Inside.{IsUndue, IsBegun, IsBodyBegun, IsBodyDue, IsHeadTaken}
 use Rattle.bx_office.specs.declared.client.Client.{Client}
 use Rattle.bx_office.specs.declared.client.Stage.{Stage}
 use Rattle.bx_office.specs.declared.client.Stage.TheVariants as Stages
@@ -41,8 +41,25 @@ begun old new spans r after len route t b = record {
   accepts = subst (λ (rest : List ℕ). AcceptsRequest old.server.limits old.unread.items t.head t.framing rest) (ap (λ (n : ℕ). drop n old.unread.items) t.consumed ∙ sym b.unread) t.accepts;
   verdict = b.verdict t.head t.covered;
   query = b.query t.head t.covered;
+  key = b.key t.head t.covered;
   body = b.body;
 }
+
+-- a head that was let through is answered, or its body is due. `taken` is the client after the head was taken
+pub body_begun : (spans : List HeaderSpan) (r : RequestSpans) (old taken new : Client) (route : Route) → IsHeadTaken spans r old taken (Ok route) → taken.unread.items ≡ drop r.len old.unread.items → IsUndue new.stage ⊎ IsBodyDue route taken new
+    → IsUndue new.stage ⊎ IsBodyBegun spans r old new
+body_begun spans r old taken new route is cut (inl u) = inl u
+body_begun spans r old taken new route is cut (inr due) = inr (
+  route,
+  due.0,
+  record {
+    verdict = λ h at. let of = is h at in of.0;
+    query = λ h at. let of = is h at in due.3 ∙ of.1;
+    key = λ h at. let of = is h at in due.4 ∙ of.2;
+    unread = due.2 ∙ cut;
+    body = due.1;
+  },
+)
 
 -- what a head leads to: nothing is due, or the body of a request that was let through. `read` is the client after its connection has read the head
 pub head_taken : (old read new : Client) (spans : List HeaderSpan) (progress : Progress RequestSpans) (r : RequestSpans) → ReadsAt old.server.reading old.server old.unread.items spans read.server progress → progress.event ≡ Events.Head r

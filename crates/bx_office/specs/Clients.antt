@@ -4,7 +4,7 @@ use Rattle.httparse.specs.Grammar.{RequestHead}
 use Rattle.http1.specs.declared.framing.Framing.{Framing}
 use Rattle.http1.specs.Message.{AcceptsRequest}
 use Rattle.bx_office.specs.Targets.{query_in}
-use Rattle.bx_office.specs.Heads.{IsVerdict}
+use Rattle.bx_office.specs.Heads.{IsVerdict, key_asked}
 use Rattle.bx_office.specs.Replies.{reply_text}
 use Rattle.bx_office.specs.declared.reply.Reply.{Reply}
 use Rattle.bx_office.specs.declared.client.Client.{Client}
@@ -19,19 +19,21 @@ pub record IsAdmitted (old new : Client) (route : Route) : Type 0 where
   pub accepts : AcceptsRequest old.server.limits old.unread.items head framing new.unread.items
   pub verdict : IsVerdict old.place head (Ok route)
   pub query : new.query.items ≡ query_in head.target
+  pub key : new.key ≡ key_asked head
   pub body : new.body.items ≡ []
 
 -- a piece of its body was read, or none
 pub record IsReadOn (old new : Client) (route : Route) : Type 0 where
   pub before : old.stage ≡ Body route
   pub query : new.query.items ≡ old.query.items
+  pub key : new.key ≡ old.key
   pub piece : List ℕ
   pub body : new.body.items ≡ old.body.items ++ piece
 
 -- the body of the request of this route is due after a step
 abbrev pub IsDueAfter : Client → Client → Stage → Type 0
 IsDueAfter old new (Body route) = IsAdmitted old new route ⊎ IsReadOn old new route
-IsDueAfter old new (Asked route) = (old.stage ≡ Asked route) ⊎ ((old.stage ≡ Body route) × (new.query.items ≡ old.query.items) × (new.body.items ≡ old.body.items))
+IsDueAfter old new (Asked route) = (old.stage ≡ Asked route) ⊎ ((old.stage ≡ Body route) × (new.query.items ≡ old.query.items) × (new.key ≡ old.key) × (new.body.items ≡ old.body.items))
 IsDueAfter old new _ = Unit {0}
 
 -- ---- what each function of it does
@@ -75,6 +77,7 @@ pub record AreOctetsTaken (octets : List ℕ) (old new : Client) : Type 0 where
   pub place : new.place ≡ old.place
   pub server : new.server ≡ old.server
   pub query : new.query ≡ old.query
+  pub key : new.key ≡ old.key
   pub body : new.body ≡ old.body
   pub out : new.out ≡ old.out
 

@@ -3,12 +3,13 @@ use Rattle.std.specs.Prelude.{◌≡◌, ◌∷◌, [], ◌==◌, ◌&&◌, ◌|
 use Rattle.std.specs.Str.{bytes_eq}
 use Rattle.bx_office.specs.Targets.{text_of, past, path_asked, host_asked}
 use Rattle.bx_office.specs.Hosts.{is_own_host, is_own_origin}
+use Rattle.bx_office.specs.Keys.{is_keyed}
 use Rattle.bx_office.specs.declared.gate.Place.{Place}
 use Rattle.bx_office.specs.declared.gate.Request.{Request}
 use Rattle.bx_office.specs.declared.gate.Route.{Route}
 use Rattle.bx_office.specs.declared.gate.Route.TheVariants.{Home, Script, Style, Bookings, Quote, Plan, Outcomes, Records, Chart, Metrics, Health, Ready, Office}
 use Rattle.bx_office.specs.declared.gate.Refusal.{Refusal}
-use Rattle.bx_office.specs.declared.gate.Refusal.TheVariants.{Doubled, OtherHost, OtherOrigin, UnknownMethod, NotFound, WrongMethod, NotCsv, Coded, NoLength}
+use Rattle.bx_office.specs.declared.gate.Refusal.TheVariants.{Doubled, OtherHost, OtherOrigin, UnknownMethod, NotFound, WrongMethod, NotCsv, Coded, NoLength, BadKey}
 
 -- what the gate looks at of a request
 pub record Question : Type 0 where
@@ -17,6 +18,7 @@ pub record Question : Type 0 where
   pub host : Option (List ℕ)
   pub origin : Option (List ℕ)
   pub content : Option (List ℕ)
+  pub key : Option (List ℕ)
   pub is_doubled : Bool
   pub is_coded : Bool
   pub has_length : Bool
@@ -28,6 +30,7 @@ question_of r = record {
   host = text_of r.host;
   origin = text_of r.origin;
   content = text_of r.content;
+  key = text_of r.key;
   is_doubled = r.is_doubled;
   is_coded = r.is_coded;
   has_length = r.has_length;
@@ -103,9 +106,9 @@ pub record IsAsked (place : Place) (q : Question) (route : Route) : Type 0 where
   pub path : path_asked q.target ≡ path_of route
   pub taken : takes route q.method ≡ true
 
--- what has a body says how long it is, and it is not coded
+-- what has a body says how long it is, it is not coded, and the key that it has is one
 abbrev pub is_bare : Route → Question → Bool
-is_bare route q = not (has_body route && q.is_coded) && not (has_body route && not q.has_length)
+is_bare route q = not (has_body route && q.is_coded) && (not (has_body route && not q.has_length) && not (has_body route && not (is_keyed q.key)))
 
 abbrev pub IsGated : Place → Question → Result Route Refusal → Type 0
 IsGated place q (Ok route) = IsAsked place q route × (is_typed route q.content ≡ true) × (is_bare route q ≡ true)
@@ -118,3 +121,4 @@ IsGated place q (Err (WrongMethod route)) = IsMeant place q × (path_asked q.tar
 IsGated place q (Err NotCsv) = IsAsked place q Bookings × (is_csv q.content ≡ false)
 IsGated place q (Err Coded) = IsAsked place q Bookings × (is_csv q.content ≡ true) × (q.is_coded ≡ true)
 IsGated place q (Err NoLength) = IsAsked place q Bookings × (is_csv q.content ≡ true) × (q.is_coded ≡ false) × (q.has_length ≡ false)
+IsGated place q (Err BadKey) = IsAsked place q Bookings × (is_csv q.content ≡ true) × (q.is_coded ≡ false) × (q.has_length ≡ true) × (is_keyed q.key ≡ false)

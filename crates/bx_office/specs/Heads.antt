@@ -5,6 +5,7 @@ use Rattle.httparse.specs.Spans.{name_and_value}
 use Rattle.http1.specs.Fields.{Header, values_named}
 use Rattle.http1.specs.Text.{eq_ignore_case}
 use Rattle.bx_office.specs.Gate.{Question, IsGated}
+use Rattle.bx_office.specs.Keys.{key_of}
 use Rattle.bx_office.specs.declared.gate.Place.{Place}
 use Rattle.bx_office.specs.declared.gate.Refusal.{Refusal}
 use Rattle.bx_office.specs.declared.gate.Route.{Route}
@@ -28,7 +29,7 @@ is_doubled values = are_more false values
 
 -- one of the fields that may stand once stands there twice (`Host` is told by the connection itself)
 abbrev pub are_doubled : List Header → Bool
-are_doubled fields = is_doubled (values_named (codes "origin") fields) || (is_doubled (values_named (codes "content-type") fields) || is_doubled (values_named (codes "content-length") fields))
+are_doubled fields = is_doubled (values_named (codes "origin") fields) || (is_doubled (values_named (codes "content-type") fields) || (is_doubled (values_named (codes "content-length") fields) || is_doubled (values_named (codes "idempotency-key") fields)))
 
 -- a coding of the content is anything but `identity`
 abbrev pub are_coded : List (List ℕ) → Bool
@@ -46,6 +47,7 @@ question_by method target fields = record {
   host = value_named (codes "host") fields;
   origin = value_named (codes "origin") fields;
   content = value_named (codes "content-type") fields;
+  key = value_named (codes "idempotency-key") fields;
   is_doubled = are_doubled fields;
   is_coded = are_coded (values_named (codes "content-encoding") fields);
   has_length = says_length fields;
@@ -54,6 +56,14 @@ question_by method target fields = record {
 -- what the gate looks at of a head
 abbrev pub question_in : RequestHead → Question
 question_in h = question_by h.method h.target (map name_and_value h.fields)
+
+-- the key that the first such field says, where it says one
+abbrev pub key_in : Option (List ℕ) → Option (List ℕ)
+key_in None = None
+key_in (Some value) = key_of value
+
+abbrev pub key_asked : RequestHead → Option (List ℕ)
+key_asked h = key_in (value_named (codes "idempotency-key") (map name_and_value h.fields))
 
 -- what the gate answers to a head
 abbrev pub IsVerdict : Place → RequestHead → Result Route Refusal → Type 0

@@ -7,7 +7,7 @@ use Rattle.httparse.specs.declared.spans.RequestSpans.{RequestSpans}
 use Rattle.http1.specs.Server.{after_end}
 use Rattle.http1.specs.declared.server.Server.{Server}
 use Rattle.bx_office.specs.Targets.{query_in}
-use Rattle.bx_office.specs.Heads.{IsVerdict, first_field_of}
+use Rattle.bx_office.specs.Heads.{IsVerdict, first_field_of, key_asked}
 use Rattle.bx_office.specs.Replies.{after_body, after_head}
 use Rattle.bx_office.specs.declared.client.Client.{Client}
 use Rattle.bx_office.specs.declared.client.Stage.{Stage}
@@ -29,6 +29,7 @@ IsUndue _ = Unit {0}
 pub record IsBegun (place : Place) (input : List ℕ) (spans : List HeaderSpan) (r : RequestSpans) (route : Route) (new : Client) : Type 0 where
   pub verdict : (h : RequestHead) → IsRequestAt input spans r h → IsVerdict place h (Ok route)
   pub query : (h : RequestHead) → IsRequestAt input spans r h → new.query.items ≡ query_in h.target
+  pub key : (h : RequestHead) → IsRequestAt input spans r h → new.key ≡ key_asked h
   pub unread : new.unread.items ≡ drop r.len input
   pub body : new.body.items ≡ []
 
@@ -37,7 +38,7 @@ abbrev pub IsHeadTaken : List HeaderSpan → RequestSpans → Client → Client 
 IsHeadTaken spans r old new verdict =
     (h : RequestHead)
     → IsRequestAt old.unread.items spans r h
-    → IsVerdict old.place h verdict × (new.query.items ≡ query_in h.target)
+    → IsVerdict old.place h verdict × (new.query.items ≡ query_in h.target) × (new.key ≡ key_asked h)
 
 -- a head was let through, and its body is due
 abbrev pub IsBodyBegun : List HeaderSpan → RequestSpans → Client → Client → Type 0
@@ -49,15 +50,25 @@ abbrev pub IsBodyDue : Route → Client → Client → Type 0
 IsBodyDue route old new =
     (new.stage ≡ Body route)
     × (new.body.items ≡ [])
-    × (new.unread ≡ old.unread)
-    × (new.query ≡ old.query)
+    × (new.unread.items ≡ old.unread.items)
+    × (new.query.items ≡ old.query.items)
+    × (new.key ≡ old.key)
 
 -- a piece of a body was read
 abbrev pub HasKept : List ℕ → Client → Client → Type 0
 HasKept piece old new =
     (new.stage ≡ old.stage)
     × (new.query ≡ old.query)
+    × (new.key ≡ old.key)
     × (new.body.items ≡ old.body.items ++ piece)
+
+-- nothing of a body was read
+abbrev pub HasWaited : Client → Client → Type 0
+HasWaited old new =
+    (new.stage ≡ old.stage)
+    × (new.query ≡ old.query)
+    × (new.key ≡ old.key)
+    × (new.body ≡ old.body)
 
 -- a body was read to its end: the request waits for its answer
 abbrev pub HasAsked : Client → Client → Type 0
@@ -66,6 +77,7 @@ HasAsked old new =
     × (old.stage ≡ Body route)
     × (new.stage ≡ Asked route)
     × (new.query ≡ old.query)
+    × (new.key ≡ old.key)
     × (new.body ≡ old.body)
 
 -- the values of the fields of this name, and the first of them, by the places of the fields in what was read

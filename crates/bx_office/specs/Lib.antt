@@ -1,5 +1,8 @@
 pub mod Targets
+pub mod Origins
 pub mod Hosts
+pub mod Keys
+pub mod KeyInside
 pub mod Gate
 pub mod Heads
 pub mod Replies

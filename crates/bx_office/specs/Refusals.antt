@@ -6,7 +6,7 @@ use Rattle.httparse.specs.declared.Error.TheVariants as Parser
 use Rattle.http1.specs.declared.error.ReadError.{ReadError}
 use Rattle.http1.specs.declared.error.ReadError.TheVariants as Read
 use Rattle.bx_office.specs.declared.gate.Refusal.{Refusal}
-use Rattle.bx_office.specs.declared.gate.Refusal.TheVariants.{Doubled, OtherHost, OtherOrigin, UnknownMethod, NotFound, WrongMethod, NotCsv, Coded, NoLength}
+use Rattle.bx_office.specs.declared.gate.Refusal.TheVariants.{Doubled, OtherHost, OtherOrigin, UnknownMethod, NotFound, WrongMethod, NotCsv, Coded, NoLength, BadKey}
 use Rattle.bx_office.specs.declared.gate.Route.{Route}
 use Rattle.bx_office.specs.declared.gate.Route.TheVariants.{Bookings, Office}
 use Rattle.bx_office.specs.declared.reply.Status.{Status}
@@ -24,6 +24,7 @@ refusal_status (WrongMethod route) = Statuses.MethodNotAllowed
 refusal_status NotCsv = Statuses.UnsupportedMediaType
 refusal_status Coded = Statuses.UnsupportedMediaType
 refusal_status NoLength = Statuses.LengthRequired
+refusal_status BadKey = Statuses.BadRequest
 
 -- an answer that a method is another says which ones there are (RFC 9110, section 15.5.6), and one that a body is coded how it may be (15.5.16)
 abbrev pub methods_of : Route → Allowed

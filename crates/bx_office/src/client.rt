@@ -4,7 +4,8 @@ ghost use Rattle.std.specs.Prelude.{◌≤◌, length};
 ghost use Rattle.bx_office.specs.declared.client.TheConstants.{MAX_UNREAD, MAX_BODY};
 
 use crate::gate::{Place, Refusal, Route};
-use crate::heads::{gated, is_head};
+use crate::heads::{gated, is_head, key_in};
+use crate::keys::Key;
 use crate::refusals::{faulting, giving_up, refusing};
 use crate::reply::{Reply, Sending, Status, date_at, write_reply};
 use crate::targets::query_in;
@@ -51,6 +52,7 @@ pub struct Client {
     pub(crate) date: HttpDate,
     pub(crate) is_head: bool,
     pub(crate) query: BytesMut,
+    pub(crate) key: Option<Key>,
     pub(crate) body: BytesMut,
     /// How many octets are kept for the body, from when it is let through until it is answered.
     pub(crate) kept: usize,
@@ -65,7 +67,7 @@ impl Client {
     ghost use Rattle.httpdate.specs.Date.{unix_secs};
     ghost use Rattle.bx_office.specs.Targets.{query_in};
     ghost use Rattle.httparse.specs.Spans.{IsRequestWithin};
-    ghost use Rattle.bx_office.specs.Inside.{IsUndue, HasAsked, IsBodyBegun, HasKept, IsBodyDue, IsHeadTaken};
+    ghost use Rattle.bx_office.specs.Inside.{IsUndue, HasAsked, HasWaited, IsBodyBegun, HasKept, IsBodyDue, IsHeadTaken};
     ghost use Rattle.bx_office.specs.Clients.{IsDueAfter, IsLeft, IsReplySaid, AreOctetsTaken, IsAfterAnswer, is_over, is_between, is_reading, room_to_read};
 
     /// A client that has sent nothing yet. Takes no memory.
@@ -86,6 +88,7 @@ impl Client {
             date: date_at(0),
             is_head: false,
             query: BytesMut::new(alloc),
+            key: None,
             body: BytesMut::new(alloc),
             kept: 0,
             out: BytesMut::new(alloc),
@@ -170,6 +173,13 @@ impl Client {
         ensures { result.now ≡ self.now.query.items }
     {
         self.query.as_slice()
+    }
+
+    /// The key of the request, where it has one.
+    pub fn key(&self) -> Option<Key>
+        ensures { result ≡ self.now.key }
+    {
+        self.key
     }
 
     /// The body of the request.
@@ -259,6 +269,7 @@ impl Client {
         let verdict = gated(self.place, input, head, spans);
         let query = query_in(head.path.of(input));
         self.is_head = is_head(head.method.of(input));
+        self.key = key_in(input, head, spans);
         let is_kept = self.query.extend_from_slice(query).is_ok();
         self.unread.advance(head.len);
         if is_kept { Some(verdict) } else { None }
@@ -388,7 +399,7 @@ impl Client {
     /// More octets are wanted. Where none come, or there is no room for them, the client is given up.
     fn wait(&mut self, consumed: usize)
         requires { consumed ≤ length self.old.unread.items }
-        ensures stage { IsLeft self.new ⊎ ((self.new.stage ≡ self.old.stage) × (self.new.query ≡ self.old.query) × (self.new.body ≡ self.old.body)) }
+        ensures stage { IsLeft self.new ⊎ HasWaited self.old self.new }
         ensures place { self.new.place ≡ self.old.place }
         ensures kept { self.new.kept ≤ self.old.kept }
     {
@@ -438,6 +449,7 @@ impl Client {
             return self.leave();
         }
         self.query.clear();
+        self.key = None;
         self.body = BytesMut::new(self.alloc);
         self.kept = 0;
         self.is_head = false;

@@ -6,6 +6,8 @@ ghost use Rattle.bx_office.specs.Targets.{text_of};
 ghost use Rattle.bx_office.specs.Gate.{path_of, takes, is_known, ends_type, is_csv, is_csv_type, is_typed, has_body, question_of, IsGated};
 
 use crate::hosts::{is_own_host, is_own_origin};
+use crate::keys::is_keyed;
+use crate::origins::Origin;
 use crate::targets::{local_path, named_host, past, path_in};
 
 /// Where the office is opened.
@@ -15,6 +17,10 @@ pub enum Place {
     Port(u16),
     /// A socket of the file system.
     Socket,
+    /// A port of the loopback interface, to which a proxy hands on what this origin is asked.
+    ProxiedPort(u16, Origin),
+    /// A socket of the file system, to which a proxy hands on what this origin is asked.
+    ProxiedSocket(Origin),
 }
 
 /// What is asked for.
@@ -69,10 +75,12 @@ pub enum Refusal {
     Coded,
     /// 411: bookings whose length is not said (RFC 9112, section 6.3).
     NoLength,
+    /// 400: bookings whose `Idempotency-Key` is no key (`read_key`).
+    BadKey,
 }
 
-/// What the gate looks at of a request: its method and its target; the fields `Host`, `Origin` and `Content-Type`, where it has them; whether
-/// of a field that stands once there are two; whether its body is coded; and whether it says how long that is.
+/// What the gate looks at of a request: its method and its target; the fields `Host`, `Origin`, `Content-Type` and `Idempotency-Key`, where it
+/// has them; whether of a field that stands once there are two; whether its body is coded; and whether it says how long that is.
 #[derive(Clone, Copy)]
 pub struct Request<'a> {
     pub method: &'a [u8],
@@ -80,6 +88,7 @@ pub struct Request<'a> {
     pub host: Option<&'a [u8]>,
     pub origin: Option<&'a [u8]>,
     pub content: Option<&'a [u8]>,
+    pub key: Option<&'a [u8]>,
     pub is_doubled: bool,
     pub is_coded: bool,
     pub has_length: bool,
@@ -211,7 +220,8 @@ fn is_csv(content: Option<&[u8]>) -> bool
 }
 
 /// Where a request goes. What is let through names this office, was sent by no page of another origin, and asks for what is there as that is
-/// asked for; bookings come as `text/csv`, which a browser sends to another origin only after a question that is not answered here.
+/// asked for; bookings come as `text/csv`, which a browser sends to another origin only after a question that is not answered here, and what
+/// they have as a key is one.
 pub fn let_through(place: Place, request: Request<'_>) -> Result<Route, Refusal>
     ensures { IsGated place (question_of request.entry) result }
 {
@@ -244,6 +254,9 @@ pub fn let_through(place: Place, request: Request<'_>) -> Result<Route, Refusal>
     }
     if route.has_body() && !request.has_length {
         return Err(Refusal::NoLength);
+    }
+    if route.has_body() && !is_keyed(request.key) {
+        return Err(Refusal::BadKey);
     }
     Ok(route)
 }

@@ -4,10 +4,11 @@ ghost use Rattle.std.specs.Prelude.{◌≡◌, Some, None, length, All, MatchOpt
 ghost use Rattle.std.specs.Str.{bytes_eq};
 ghost use Rattle.httparse.specs.Grammar.{RequestHead};
 ghost use Rattle.httparse.specs.Spans.{IsHeaderWithin, IsRequestWithin, IsRequestAt, header_bytes};
-ghost use Rattle.bx_office.specs.Heads.{is_doubled, are_doubled, are_coded, says_length, IsVerdict};
+ghost use Rattle.bx_office.specs.Heads.{is_doubled, are_doubled, are_coded, says_length, key_asked, IsVerdict};
 ghost use Rattle.bx_office.specs.Inside.{value_at, values_at};
 
 use crate::gate::{Place, Refusal, Request, Route, let_through};
+use crate::keys::{Key, read_key};
 use http1::text::eq_ignore_case;
 use httparse::spans::{HeaderSpan, RequestSpans};
 
@@ -49,6 +50,7 @@ fn are_doubled(input: &[u8], spans: &[HeaderSpan]) -> bool
     is_doubled(input, spans, b"origin")
         || is_doubled(input, spans, b"content-type")
         || is_doubled(input, spans, b"content-length")
+        || is_doubled(input, spans, b"idempotency-key")
 }
 
 /// Whether the content is coded, by anything but `identity`.
@@ -91,17 +93,30 @@ pub(crate) fn gated(
     let host = value_of(input, fields, b"host");
     let origin = value_of(input, fields, b"origin");
     let content = value_of(input, fields, b"content-type");
+    let key = value_of(input, fields, b"idempotency-key");
     let request = Request {
         method,
         target,
         host,
         origin,
         content,
+        key,
         is_doubled: are_doubled(input, fields),
         is_coded: are_coded(input, fields),
         has_length: says_length(input, fields),
     };
     let_through(place, request)
+}
+
+/// The key of a request with this head, where it has one.
+pub(crate) fn key_in(input: &[u8], head: &RequestSpans, spans: &[HeaderSpan]) -> Option<Key>
+    requires { IsRequestWithin input.now spans.now head.now }
+    ensures { (h : RequestHead) → IsRequestAt input.now spans.now head.now h → result ≡ key_asked h }
+{
+    match value_of(input, &spans[..head.headers], b"idempotency-key") {
+        Some(value) => read_key(value),
+        None => None,
+    }
 }
 
 /// Whether this is the method `HEAD`, whose answer has no body.

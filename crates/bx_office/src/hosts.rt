@@ -4,9 +4,11 @@ ghost use Rattle.std.specs.Prelude.{◌≡◌, ◌+◌, ◌≤◌, ◌++◌, len
 ghost use Rattle.arrayvec.specs.ArrayVec.{array_vec_len};
 ghost use Rattle.http1.specs.Text.{eq_ignore_case};
 ghost use Rattle.bx_office.specs.Targets.{text_of};
-ghost use Rattle.bx_office.specs.Hosts.{is_loopback, is_own_host, is_host, is_origin_of, is_own_origin};
+ghost use Rattle.bx_office.specs.Hosts.{is_loopback, is_own_host, is_host, is_host_of, is_origin_of, is_own_origin};
+ghost use Rattle.bx_office.specs.Origins.{origin_text};
 
 use crate::gate::Place;
+use crate::origins::Origin;
 use crate::targets::past;
 use arrayvec::ArrayVec;
 use http1::text::eq_ignore_case;
@@ -49,17 +51,6 @@ fn is_loopback(port: u16, host: &[u8]) -> bool
                 || eq_ignore_case(host, b"[::1]")))
 }
 
-/// Whether the host that a request names is this office.
-pub(crate) fn is_own_host(place: Place, host: Option<&[u8]>) -> bool
-    ensures { result ≡ is_own_host place (text_of host.entry) }
-{
-    match (place, host) {
-        (Place::Socket, _) => true,
-        (Place::Port(_), None) => false,
-        (Place::Port(port), Some(host)) => is_loopback(port, host),
-    }
-}
-
 /// Whether what stands after the scheme of an origin is this host, whatever its case.
 fn is_host(rest: Option<&[u8]>, host: &[u8]) -> bool
     ensures { result ≡ is_host (text_of rest.entry) host.now }
@@ -70,14 +61,45 @@ fn is_host(rest: Option<&[u8]>, host: &[u8]) -> bool
     }
 }
 
-/// Whether a page of this host has such an origin.
+/// Whether an origin is one of this host.
+fn is_host_of(origin: &[u8], host: &[u8]) -> bool
+    ensures { result ≡ is_host_of origin.now host.now }
+{
+    is_host(past(origin, b"http://"), host) || is_host(past(origin, b"https://"), host)
+}
+
+/// Whether the host that a request names is this office.
+pub(crate) fn is_own_host(place: Place, host: Option<&[u8]>) -> bool
+    ensures { result ≡ is_own_host place (text_of host.entry) }
+{
+    match (place, host) {
+        (Place::Socket | Place::ProxiedSocket(_), _) => true,
+        (_, None) => false,
+        (Place::Port(port), Some(host)) => is_loopback(port, host),
+        (Place::ProxiedPort(port, outside), Some(host)) => {
+            is_loopback(port, host) || is_host_of(outside.octets(), host)
+        }
+    }
+}
+
+/// Whether an origin is this one, whatever its case.
+fn is_outside(outside: &Origin, origin: &[u8]) -> bool
+    ensures { result ≡ eq_ignore_case origin.now (origin_text outside.now) }
+{
+    eq_ignore_case(origin, outside.octets())
+}
+
+/// Whether a page of this host has such an origin. That of a proxy is its own whatever host it names, and at a port no other is one of the
+/// host of its origin.
 fn is_origin_of(place: Place, host: &[u8], origin: &[u8]) -> bool
     ensures { result ≡ is_origin_of place host.now origin.now }
 {
     match place {
         Place::Port(_) => is_host(past(origin, b"http://"), host),
-        Place::Socket => is_host(past(origin, b"http://"), host)
-            || is_host(past(origin, b"https://"), host),
+        Place::Socket => is_host_of(origin, host),
+        Place::ProxiedPort(port, outside) => is_outside(&outside, origin)
+            || (is_loopback(port, host) && is_host(past(origin, b"http://"), host)),
+        Place::ProxiedSocket(outside) => is_outside(&outside, origin) || is_host_of(origin, host),
     }
 }
 

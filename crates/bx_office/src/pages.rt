@@ -82,7 +82,7 @@ const reasons = {
 const inWords = (text) => faults[text.split(\" \")[0].trim()] || text.trim();
 const ask = async (path, options) => {
   const reply = await fetch(path, options);
-  return { isFine: reply.ok, text: await reply.text() };
+  return { isFine: reply.ok, isSure: reply.status < 500, text: await reply.text() };
 };
 const time = (id) => new Date(at(id).value).toISOString().replace(\".000Z\", \"Z\");
 
@@ -100,13 +100,25 @@ const quote = async () => {
   const reply = await ask(`/quote?${query}`);
   return priced(reply.text);
 };
+// What is filled in has a key until it is sure what has become of it: whoever asks again after an answer that was lost asks for the same.
+let unanswered = { body: null, key: null };
+const randomKey = () => {
+  if (typeof crypto.randomUUID === \"function\") {
+    return crypto.randomUUID();
+  }
+  return [...crypto.getRandomValues(new Uint8Array(16))].map((octet) => octet.toString(16).padStart(2, \"0\")).join(\"\");
+};
 const book = async () => {
   const row = [time(\"start\"), time(\"end\"), at(\"number\").value, at(\"pay\").value, \"no\", at(\"direction\").value];
-  const reply = await ask(\"/bookings\", {
-    method: \"POST\",
-    headers: { \"Content-Type\": \"text/csv\" },
-    body: `start,end,number,pay,must,direction\\n${row.join(\",\")}\\n`,
-  });
+  const body = `start,end,number,pay,must,direction\\n${row.join(\",\")}\\n`;
+  if (unanswered.body !== body) {
+    unanswered = { body, key: randomKey() };
+  }
+  const headers = { \"Content-Type\": \"text/csv\", \"Idempotency-Key\": `\"${unanswered.key}\"` };
+  const reply = await ask(\"/bookings\", { method: \"POST\", headers, body });
+  if (reply.isSure) {
+    unanswered = { body: null, key: null };
+  }
   return reply.isFine ? sold(reply.text) : inWords(reply.text);
 };
 
@@ -114,11 +126,13 @@ at(\"call\").addEventListener(\"submit\", async (event) => {
   event.preventDefault();
   const isBooking = event.submitter !== null && event.submitter.value === \"book\";
   at(\"answer\").textContent = \"Asking the office ...\";
+  at(\"book\").disabled = true;
   try {
     at(\"answer\").textContent = isBooking ? await book() : await quote();
   } catch (fault) {
-    at(\"answer\").textContent = \"The office does not answer.\";
+    at(\"answer\").textContent = isBooking ? \"The office does not answer. Ask again as it stands here: it is booked once at most.\" : \"The office does not answer.\";
   }
+  at(\"book\").disabled = false;
   show();
 });
 
@@ -195,6 +209,7 @@ dd { margin: 0; text-align: right; }
 label { display: block; }
 input, select { box-sizing: border-box; font: inherit; padding: 0.5rem; width: 100%; border: 1px solid #595959; border-radius: 0.25rem; color: #111; background: #fff; }
 button { font: inherit; padding: 0.5rem 1rem; margin: 0 0.5rem 0.5rem 0; border: 2px solid #111; border-radius: 0.25rem; color: #111; background: #fff; }
+button:disabled { border-color: #767676; color: #595959; }
 :focus-visible { outline: 3px solid #005fcc; outline-offset: 2px; }
 #answer:not(:empty) { border-left: 4px solid #111; padding-left: 0.75rem; }
 ";

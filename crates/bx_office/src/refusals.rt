@@ -15,7 +15,7 @@ fn refusal_status(refusal: Refusal) -> Status
     ensures { result ≡ refusal_status refusal }
 {
     match refusal {
-        Refusal::Doubled => Status::BadRequest,
+        Refusal::Doubled | Refusal::BadKey => Status::BadRequest,
         Refusal::OtherHost | Refusal::OtherOrigin => Status::Forbidden,
         Refusal::UnknownMethod => Status::NotImplemented,
         Refusal::NotFound => Status::NotFound,
@@ -61,6 +61,7 @@ fn refusal_words(refusal: Refusal) -> &'static str {
         Refusal::NotCsv => "bookings are text/csv\n",
         Refusal::Coded => "bookings are not coded\n",
         Refusal::NoLength => "bookings have a length\n",
+        Refusal::BadKey => "the Idempotency-Key is 1 to 64 visible characters, in quotes or not\n",
     }
 }
 

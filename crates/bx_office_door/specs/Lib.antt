@@ -1,5 +1,6 @@
 pub mod Sliced
 pub mod Streams
+pub mod Unmets
 pub mod Guests
 pub mod Places
 pub mod Doors

@@ -7,9 +7,10 @@ ghost use Rattle.bx_office_door.specs.declared.door.TheConstants.{MAX_GUESTS, SP
 use crate::customer::Customer;
 use crate::eves::eve_at;
 use crate::guest::Guest;
-use crate::stream::Listening;
+use crate::stream::{Listening, Unmet};
 use bx_office::{Client, Place, Reply, Route, Stage};
 use std::alloc::Global;
+use std::mem;
 
 /// The places. Whoever comes beyond them is told when to ask again.
 const MAX_GUESTS: usize = 64;
@@ -29,6 +30,8 @@ pub struct Door {
     guests: Vec<Guest>,
     /// How many were let in.
     count: u64,
+    /// Whether no file descriptor was left for whoever waits, since that was asked last.
+    has_lacked: bool,
     /// How many requests were answered.
     answers: u64,
     /// What the clock showed last, in nanoseconds.
@@ -43,7 +46,7 @@ pub struct Door {
 }
 
 impl Door {
-    ghost use Rattle.std.specs.Prelude.{◌++◌, ◌-◌, ◌<◌, [], None, Some, MatchOption, filter, not, if◌then◌else◌, slice_index_or};
+    ghost use Rattle.std.specs.Prelude.{◌++◌, ◌-◌, ◌<◌, [], false, None, Some, MatchOption, filter, not, if◌then◌else◌, slice_index_or};
     ghost use Rattle.bx_office_door.specs.Guests.{first_asked, client_of, given_since, IsAnsweredThere, IsLookedFor};
     ghost use Rattle.bx_office_door.specs.Places.{IsFirstGuest};
     ghost use Rattle.bx_office_door.specs.declared.guest.Guest.{Guest};
@@ -55,6 +58,7 @@ impl Door {
         ensures place { result.place ≡ place }
         ensures opens { result.opens ≡ opens }
         ensures figures { result.figures ≡ None }
+        ensures lacked { result.has_lacked ≡ false }
         ensures counts { (result.count ≡ 0) × (result.answers ≡ 0) × (result.shown ≡ 0) }
     {
         Door {
@@ -63,6 +67,7 @@ impl Door {
             listening,
             guests: Vec::new(alloc),
             count: 0,
+            has_lacked: false,
             answers: 0,
             shown: 0,
             opens,
@@ -84,8 +89,12 @@ impl Door {
             let Some(number) = self.count.checked_add(1) else {
                 return;
             };
-            let Some(stream) = self.listening.accept() else {
-                return;
+            let stream = match self.listening.accept() {
+                Ok(stream) => stream,
+                Err(unmet) => {
+                    self.has_lacked = self.has_lacked || unmet == Unmet::NoDescriptor;
+                    return;
+                }
             };
             let guest = Guest::new(self.alloc, self.place, number, stream, now, is_spare);
             if self.guests.push(guest).is_err() {
@@ -164,6 +173,14 @@ impl Door {
         ensures { self.new ≡ record self.old { figures = figures } }
     {
         self.figures = figures;
+    }
+
+    /// Whether no file descriptor was left for whoever waits, since this was asked last.
+    pub fn take_lack(&mut self) -> bool
+        ensures value { result ≡ self.old.has_lacked }
+        ensures rest { self.new ≡ record self.old { has_lacked = false } }
+    {
+        mem::replace(&mut self.has_lacked, false)
     }
 
     /// What the clock showed when the door was attended last, in nanoseconds; 0 before.

@@ -11,5 +11,5 @@ mod wire;
 pub use customer::Customer;
 pub use door::Door;
 pub use guest::Guest;
-pub use stream::{Came, Listening, Stream};
+pub use stream::{Came, Listening, Stream, Unmet};
 pub use wire::OfficeWire;

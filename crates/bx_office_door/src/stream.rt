@@ -1,7 +1,8 @@
 //! Sockets that never wait.
 
-ghost use Rattle.std.specs.Prelude.{◌≤◌, ℕ, IfOk, length};
+ghost use Rattle.std.specs.Prelude.{◌≡◌, ◌≤◌, ℕ, IfOk, length};
 ghost use Rattle.bx_office_door.specs.Streams.{IsCome};
+ghost use Rattle.bx_office_door.specs.Unmets.{unmet_of};
 
 use std::io;
 use std::io::{ErrorKind, Read, Write};
@@ -72,6 +73,32 @@ pub enum Listening {
     Path(UnixListener),
 }
 
+/// Why no client was let in.
+#[derive(Clone, Copy, Debug, PartialEq, Eq)]
+pub enum Unmet {
+    /// None waits, or the one that did is gone.
+    Nobody,
+    /// The process or the system has no file descriptor left for whoever waits. Linux says so where nobody waits too.
+    NoDescriptor,
+}
+
+/// The process has no file descriptor left (`EMFILE` of Linux, accept(2)).
+const NONE_OF_PROCESS: i32 = 24;
+
+/// The system has none left (`ENFILE`).
+const NONE_OF_SYSTEM: i32 = 23;
+
+/// Why no client was let in where the system says this number.
+fn unmet_of(fault: Option<i32>) -> Unmet
+    ensures { result ≡ unmet_of fault }
+{
+    if fault == Some(NONE_OF_PROCESS) || fault == Some(NONE_OF_SYSTEM) {
+        Unmet::NoDescriptor
+    } else {
+        Unmet::Nobody
+    }
+}
+
 impl Listening {
     /// Listens at a port of the loopback interface. The port 0 is one that the system chooses.
     pub fn at_port<H: Net<Listener = TcpListener, Stream = TcpStream>>(
@@ -83,19 +110,27 @@ impl Listening {
         Ok(Listening::Port(listener))
     }
 
-    /// The next client, where one waits.
-    pub fn accept(&self) -> Option<Stream> {
+    /// The next client, whose socket never waits.
+    fn accepted(&self) -> io::Result<TcpStream> {
         match self {
             Listening::Port(listener) => {
-                let (stream, _) = listener.accept().ok()?;
-                stream.set_nonblocking(true).ok()?;
-                Some(Stream(stream))
+                let (stream, _) = listener.accept()?;
+                stream.set_nonblocking(true)?;
+                Ok(stream)
             }
             Listening::Path(listener) => {
-                let (stream, _) = listener.accept().ok()?;
-                stream.set_nonblocking(true).ok()?;
-                Some(Stream(TcpStream::from(OwnedFd::from(stream))))
+                let (stream, _) = listener.accept()?;
+                stream.set_nonblocking(true)?;
+                Ok(TcpStream::from(OwnedFd::from(stream)))
             }
+        }
+    }
+
+    /// The next client, where one waits; else why there is none.
+    pub fn accept(&self) -> Result<Stream, Unmet> {
+        match self.accepted() {
+            Ok(stream) => Ok(Stream(stream)),
+            Err(fault) => Err(unmet_of(fault.raw_os_error())),
         }
     }
 }

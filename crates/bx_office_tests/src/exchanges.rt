@@ -18,7 +18,7 @@ const COMMON: &[u8] =
 /// What the clock shows meanwhile, in nanoseconds.
 const SHOWN: u128 = 1_774_821_601_999_999_999;
 
-static CASES: [Case; 42] = [
+static CASES: [Case; 47] = [
     Case {
         name: "nothing",
         sent: "",
@@ -193,6 +193,31 @@ static CASES: [Case; 42] = [
         name: "two lengths, which are the same",
         sent: "POST /bookings HTTP/1.1\r\nHost: localhost:8080\r\nContent-Type: text/csv\r\nContent-Length: 3\r\nContent-Length: 3\r\n\r\nabc",
         answer: "HTTP/1.1 400 Bad Request\r\n~vary: origin\r\nconnection: close\r\ncontent-length: 40\r\n\r\ntwo of one field of which one may stand\n",
+    },
+    Case {
+        name: "bookings with a key",
+        sent: "POST /bookings HTTP/1.1\r\nHost: localhost:8080\r\nContent-Type: text/csv\r\nIdempotency-Key: \"8e03978e-40d5-43e8-bc93-6894a57f9324\"\r\nContent-Length: 3\r\n\r\nabc",
+        answer: "HTTP/1.1 200 OK\r\n~vary: origin\r\ncontent-length: 13\r\n\r\nBookings||abc",
+    },
+    Case {
+        name: "bookings with a key that is none",
+        sent: "POST /bookings HTTP/1.1\r\nHost: localhost:8080\r\nContent-Type: text/csv\r\nIdempotency-Key: one two\r\nContent-Length: 3\r\n\r\nabc",
+        answer: "HTTP/1.1 400 Bad Request\r\n~vary: origin\r\nconnection: close\r\ncontent-length: 68\r\n\r\nthe Idempotency-Key is 1 to 64 visible characters, in quotes or not\n",
+    },
+    Case {
+        name: "no bookings with a key of nothing, and a page behind them",
+        sent: "POST /bookings HTTP/1.1\r\nHost: localhost:8080\r\nContent-Type: text/csv\r\nidempotency-key:\r\nContent-Length: 0\r\n\r\nGET /plan HTTP/1.1\r\nHost: localhost:8080\r\n\r\n",
+        answer: "HTTP/1.1 400 Bad Request\r\n~vary: origin\r\ncontent-length: 68\r\n\r\nthe Idempotency-Key is 1 to 64 visible characters, in quotes or not\nHTTP/1.1 200 OK\r\n~vary: origin\r\ncontent-length: 6\r\n\r\nPlan||",
+    },
+    Case {
+        name: "two keys, which are the same",
+        sent: "POST /bookings HTTP/1.1\r\nHost: localhost:8080\r\nContent-Type: text/csv\r\nIdempotency-Key: one\r\nidempotency-key: one\r\nContent-Length: 3\r\n\r\nabc",
+        answer: "HTTP/1.1 400 Bad Request\r\n~vary: origin\r\nconnection: close\r\ncontent-length: 40\r\n\r\ntwo of one field of which one may stand\n",
+    },
+    Case {
+        name: "a page with a key that is none",
+        sent: "GET /plan HTTP/1.1\r\nHost: localhost:8080\r\nIdempotency-Key: one two\r\n\r\n",
+        answer: "HTTP/1.1 200 OK\r\n~vary: origin\r\ncontent-length: 6\r\n\r\nPlan||",
     },
     Case {
         name: "bookings without a length",

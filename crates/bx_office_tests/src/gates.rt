@@ -1,6 +1,6 @@
 //! Which requests are let through.
 
-use bx_office::{Place, Refusal, Request, Route, let_through};
+use bx_office::{Origin, Place, Refusal, Request, Route, let_through};
 
 /// A request: its name, the place, the method, the target, the host, the origin, the content type, and where it goes.
 type Case = (
@@ -507,6 +507,7 @@ fn request(case: &Case) -> Request<'static> {
         host: field(case.4),
         origin: field(case.5),
         content: field(case.6),
+        key: None,
         is_doubled: false,
         is_coded: false,
         has_length: true,
@@ -597,6 +598,7 @@ fn bodied(body: &Body) -> Request<'static> {
         host: Some(b"localhost:8080"),
         origin: None,
         content: Some(b"text/csv"),
+        key: None,
         is_doubled: body.3,
         is_coded: body.4,
         has_length: body.5,
@@ -608,4 +610,262 @@ fn bodies_are_let_through(rt: HostRuntime) {
     for body in &BODIES {
         assert!(rt; let_through(PORT, bodied(body)) == body.6, "{}", body.0);
     }
+}
+
+/// A request for the plan behind a proxy: its name, the origin of the proxy, whether the office is at a port, the host, the origin, and where it
+/// goes.
+type Proxied = (
+    &'static str,
+    &'static str,
+    bool,
+    &'static str,
+    &'static str,
+    Result<Route, Refusal>,
+);
+
+static PROXIED: [Proxied; 25] = [
+    (
+        "its host",
+        "https://office.example",
+        true,
+        "office.example",
+        "",
+        Ok(Route::Plan),
+    ),
+    (
+        "its host in capitals",
+        "https://office.example",
+        true,
+        "OFFICE.example",
+        "",
+        Ok(Route::Plan),
+    ),
+    (
+        "its page",
+        "https://office.example",
+        true,
+        "office.example",
+        "https://office.example",
+        Ok(Route::Plan),
+    ),
+    (
+        "its page in capitals",
+        "https://office.example",
+        true,
+        "office.example",
+        "https://Office.Example",
+        Ok(Route::Plan),
+    ),
+    (
+        "its page, handed on by a loopback name",
+        "https://office.example",
+        true,
+        "127.0.0.1:8080",
+        "https://office.example",
+        Ok(Route::Plan),
+    ),
+    (
+        "a loopback page",
+        "https://office.example",
+        true,
+        "localhost:8080",
+        "http://localhost:8080",
+        Ok(Route::Plan),
+    ),
+    (
+        "its host with a port",
+        "https://office.example",
+        true,
+        "office.example:8443",
+        "",
+        Err(Refusal::OtherHost),
+    ),
+    (
+        "a longer host",
+        "https://office.example",
+        true,
+        "office.example.org",
+        "",
+        Err(Refusal::OtherHost),
+    ),
+    (
+        "no host",
+        "https://office.example",
+        true,
+        "",
+        "",
+        Err(Refusal::OtherHost),
+    ),
+    (
+        "its origin for the host",
+        "https://office.example",
+        true,
+        "https://office.example",
+        "",
+        Err(Refusal::OtherHost),
+    ),
+    (
+        "its page without TLS",
+        "https://office.example",
+        true,
+        "office.example",
+        "http://office.example",
+        Err(Refusal::OtherOrigin),
+    ),
+    (
+        "its page without TLS, by a loopback name",
+        "https://office.example",
+        true,
+        "localhost:8080",
+        "http://office.example",
+        Err(Refusal::OtherOrigin),
+    ),
+    (
+        "a loopback page of its host",
+        "https://office.example",
+        true,
+        "office.example",
+        "http://localhost:8080",
+        Err(Refusal::OtherOrigin),
+    ),
+    (
+        "another page",
+        "https://office.example",
+        true,
+        "office.example",
+        "https://example.com",
+        Err(Refusal::OtherOrigin),
+    ),
+    (
+        "its page at a port",
+        "https://office.example",
+        true,
+        "office.example",
+        "https://office.example:8443",
+        Err(Refusal::OtherOrigin),
+    ),
+    (
+        "its page with a path",
+        "https://office.example",
+        true,
+        "office.example",
+        "https://office.example/",
+        Err(Refusal::OtherOrigin),
+    ),
+    (
+        "a page of none",
+        "https://office.example",
+        true,
+        "office.example",
+        "null",
+        Err(Refusal::OtherOrigin),
+    ),
+    (
+        "a port of its own",
+        "https://office.example:8443",
+        true,
+        "office.example:8443",
+        "https://office.example:8443",
+        Ok(Route::Plan),
+    ),
+    (
+        "a port of its own, not named",
+        "https://office.example:8443",
+        true,
+        "office.example",
+        "",
+        Err(Refusal::OtherHost),
+    ),
+    (
+        "without TLS",
+        "http://office.example",
+        true,
+        "office.example",
+        "http://office.example",
+        Ok(Route::Plan),
+    ),
+    (
+        "without TLS, a page by TLS",
+        "http://office.example",
+        true,
+        "office.example",
+        "https://office.example",
+        Err(Refusal::OtherOrigin),
+    ),
+    (
+        "by IPv6",
+        "https://[2001:db8::1]",
+        true,
+        "[2001:DB8::1]",
+        "https://[2001:db8::1]",
+        Ok(Route::Plan),
+    ),
+    (
+        "a socket, its page",
+        "https://office.example",
+        false,
+        "office",
+        "https://office.example",
+        Ok(Route::Plan),
+    ),
+    (
+        "a socket, a page of the host",
+        "https://office.example",
+        false,
+        "example.org",
+        "https://example.org",
+        Ok(Route::Plan),
+    ),
+    (
+        "a socket, another page",
+        "https://office.example",
+        false,
+        "office",
+        "https://example.com",
+        Err(Refusal::OtherOrigin),
+    ),
+];
+
+/// Where the office of such a request is.
+fn proxied(case: &Proxied) -> Option<Place> {
+    let origin = Origin::new(case.1.as_bytes())?;
+    if case.2 {
+        return Some(Place::ProxiedPort(8080, origin));
+    }
+    Some(Place::ProxiedSocket(origin))
+}
+
+/// Whether it goes where it is to go.
+fn goes_there(case: &Proxied) -> bool {
+    let request = Request {
+        method: b"GET",
+        target: b"/plan",
+        host: field(case.3),
+        origin: field(case.4),
+        content: None,
+        key: None,
+        is_doubled: false,
+        is_coded: false,
+        has_length: false,
+    };
+    match proxied(case) {
+        Some(place) => let_through(place, request) == case.5,
+        None => false,
+    }
+}
+
+#[test]
+fn a_proxy_hands_on_what_it_is_asked(rt: HostRuntime) {
+    for case in &PROXIED {
+        assert!(rt; goes_there(case), "{}", case.0);
+    }
+}
+
+#[test]
+fn origins_have_255_octets(rt: HostRuntime) {
+    let text = [b'x'; 256];
+    assert!(rt; Origin::new(&text).is_none());
+    assert!(rt;
+        matches!(Origin::new(&text[..255]), Some(origin) if origin.octets() == &text[..255])
+    );
 }

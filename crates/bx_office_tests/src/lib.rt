@@ -9,6 +9,7 @@ mod doors;
 mod exchanges;
 #[cfg(test)]
 mod gates;
+mod keys;
 #[cfg(test)]
 mod offices;
 #[cfg(test)]

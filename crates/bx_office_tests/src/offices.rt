@@ -8,7 +8,8 @@ use bx_live::Begin;
 use bx_market::run_market;
 use bx_office::Place;
 use bx_office_door::{Door, Listening};
-use bx_office_world::{Office, OfficeWorld, Opened};
+use bx_office_world::{Ledger, Office, OfficeWorld, Opened};
+use bx_sales::Tag;
 use bx_worked_days::{Row, exchange_of};
 use std::alloc::Global;
 use std::cell::RefCell;
@@ -124,15 +125,28 @@ fn ran_with<'a>(
     alloc: Global,
     door: &'a Rc<RefCell<Door>>,
     opened: &'a Opened,
-    mut exchange: Exchange,
+    exchange: Exchange,
     run: Run,
 ) -> Option<Ran> {
+    ran_after(alloc, door, opened, exchange, &[], run)
+}
+
+/// The same, where the last bookings of the day were sold before, under these keys.
+fn ran_after<'a>(
+    alloc: Global,
+    door: &'a Rc<RefCell<Door>>,
+    opened: &'a Opened,
+    mut exchange: Exchange,
+    tags: &[Option<Tag>],
+    run: Run,
+) -> Option<Ran> {
+    let ledger = Ledger::of(alloc, &exchange, tags);
     let mut quiet = QuietWorld::new(door, run.pace);
     quiet.begin = run.begin;
     quiet.is_cleared = run.is_cleared;
     let mut world = OfficeWorld {
         world: quiet,
-        office: Office::new(alloc, door.clone().ok()?, opened),
+        office: Office::new(alloc, door.clone().ok()?, opened, ledger),
     };
     run_market(
         alloc,
@@ -184,6 +198,90 @@ fn a_customer_is_sold_to_and_told(rt: HostRuntime) -> Result<(), Fail> {
     let mut customer = client(&rt, alloc, port, "POST /bookings", BATCH)?;
     assert!(rt; ran(alloc, &door, QUIET) == Some((4, 2, 2)), "sold");
     assert!(rt; is_told(&mut customer, SOLD), "told");
+    Ok(())
+}
+
+/// The same batch under a key, in quotes and without, another one under it, and the same under another key.
+const KEYED: &str =
+    "Idempotency-Key: \"a-1\"\r\nContent-Type: text/csv\r\nContent-Length: 168\r\n\r\nstart,end,number,pay\n2026-01-05T00:01:40Z,2026-01-05T00:02:00Z,1234,9\n2026-01-05T00:01:40Z,2026-01-05T00:02:00Z,1234,5\n2026-01-05T00:10:00Z,2026-01-05T00:11:00Z,1234,5\n";
+
+const KEYED_AGAIN: &str =
+    "Content-Type: text/csv\r\nIdempotency-Key: a-1\r\nContent-Length: 168\r\n\r\nstart,end,number,pay\n2026-01-05T00:01:40Z,2026-01-05T00:02:00Z,1234,9\n2026-01-05T00:01:40Z,2026-01-05T00:02:00Z,1234,5\n2026-01-05T00:10:00Z,2026-01-05T00:11:00Z,1234,5\n";
+
+const OTHER_BODY: &str =
+    "Content-Type: text/csv\r\nIdempotency-Key: a-1\r\nContent-Length: 70\r\n\r\nstart,end,number,pay\n2026-01-05T00:10:00Z,2026-01-05T00:11:00Z,1234,5\n";
+
+#[test]
+fn under_a_key_it_is_sold_once(rt: HostRuntime) -> Result<(), Fail> {
+    let alloc = rt.alloc();
+    let (door, port) = opened(&rt, alloc)?;
+    let mut customer = client(&rt, alloc, port, "POST /bookings", KEYED)?;
+    let mut again = client(&rt, alloc, port, "POST /bookings", KEYED_AGAIN)?;
+    let mut other = client(&rt, alloc, port, "POST /bookings", OTHER_BODY)?;
+    assert!(rt; ran(alloc, &door, QUIET) == Some((4, 2, 2)), "sold once");
+    assert!(rt; is_told(&mut customer, SOLD), "told");
+    assert!(rt; is_told(&mut again, SOLD), "told the same again");
+    assert!(rt;
+        is_told_so(
+            &mut other,
+            "HTTP/1.1 422 Unprocessable Content\r\n",
+            "\r\n\r\nunder this key other bookings were asked for\n"
+        ),
+        "other bookings"
+    );
+    Ok(())
+}
+
+/// The second and the third booking of the batch, as a day has them on which they were sold before.
+static SOLD_BEFORE: [Row; 4] = [
+    (100, 200, 1, false),
+    (100, 200, 2, false),
+    (100, 120, 3, false),
+    (600, 660, 1, false),
+];
+
+/// The key, and the batch: the digits of their digests.
+const TAG: Tag = Tag {
+    key: *b"2f8fe63a6224321de5d0a24cf30067d3",
+    body: *b"10d039e90c62ba828bf7e5702bb54c21",
+};
+
+/// What who asks again is told then: why the first was refused is not known any more.
+const SOLD_SO: &str =
+    "\r\n\r\nrow,answer,plan row,reason\n1,refused,,Memory\n2,accepted,3,\n3,accepted,4,\n";
+
+#[test]
+fn what_was_sold_under_a_key_before_a_start_is_told_again(rt: HostRuntime) -> Result<(), Fail> {
+    let alloc = rt.alloc();
+    let (door, port) = opened(&rt, alloc)?;
+    let mut again = client(&rt, alloc, port, "POST /bookings", KEYED)?;
+    let mut other = client(&rt, alloc, port, "POST /bookings", OTHER_BODY)?;
+    let opened = Opened {
+        channels: ChannelSet::from_numbers(&[1, 2, 3])?,
+        day: Day::new("2026-01-05", "UTC0")?,
+        last: 600,
+        clock: None,
+    };
+    let Some(exchange) = exchange_of(alloc, &SOLD_BEFORE) else {
+        return Err(Fail::from("no exchange"));
+    };
+    let tags = [Some(TAG), Some(TAG)];
+    assert!(rt;
+        ran_after(alloc, &door, &opened, exchange, &tags, QUIET) == Some((4, 0, 0)),
+        "nothing more is sold"
+    );
+    assert!(rt;
+        is_told_so(&mut again, "HTTP/1.1 200 OK\r\n", SOLD_SO),
+        "told again"
+    );
+    assert!(rt;
+        is_told_so(
+            &mut other,
+            "HTTP/1.1 422 Unprocessable Content\r\n",
+            "\r\n\r\nunder this key other bookings were asked for\n"
+        ),
+        "other bookings"
+    );
     Ok(())
 }
 

@@ -4,3 +4,5 @@ pub mod Built
 pub mod CallTimes
 pub mod Pieces
 mod SoldLines
+mod Keyings
+mod Once

@@ -1,6 +1,9 @@
 -- Who waits is answered, one after another.
-use Rattle.std.proofs.Common.{◌≡◌, refl, sym, subst, ap, ◌∙◌, inl, inr, ℕ, ◌+◌, ◌≤◌, List, [], ◌∷◌, ◌++◌, length, Option, Some, None, arith, length-append}
-use Rattle.bx_base.specs.Bookings.{Row}
+use Rattle.std.proofs.Common.{◌≡◌, refl, sym, subst, ap, ap₂, ◌∙◌, inl, inr, ℕ, ◌+◌, ◌≤◌, List, [], ◌∷◌, ◌++◌, length, Option, Some, None, arith, length-append}
+use Rattle.bx_market.specs.declared.market.Request.{Request}
+use Rattle.bx_office_world.specs.declared.ledger.Keyed.{Keyed}
+use Rattle.bx_office_world.specs.Ledgers.{tag_asked}
+use Rattle.bx_office_door.specs.Guests.{client_of}
 use Rattle.bx_day.specs.Day.{Day}
 use Rattle.bx_office.specs.declared.gate.Route.{Route}
 use Rattle.bx_office.specs.declared.gate.Route.TheVariants as routes
@@ -10,56 +13,57 @@ use Rattle.bx_office_world.specs.Serving.{IsServed, IsTurn, AreServed, IsNotSold
 use Rattle.bx_office_world.specs.declared.serving.Desk.{Desk}
 use Rattle.bx_office_world.specs.declared.serving.Selling.{Selling}
 
-served_more : (desk : Desk) (d : Day) (told : List (ℕ × Route)) (turn : ℕ × Route) (old mid new : List Guest) → AreServed desk d told old mid → first_asked mid ≡ Some turn → IsTurn desk d turn.0 turn.1 mid new → AreServed desk d (told ++ turn ∷ []) old new
-served_more desk d [] turn old mid new e f t = (subst (λ (gs : List Guest). first_asked gs ≡ Some turn) e f, new, subst (λ (gs : List Guest). IsTurn desk d turn.0 turn.1 gs new) e t, refl)
-served_more desk d (x ∷ told) turn old mid new p f t = (p.0, p.1, p.2, served_more desk d told turn p.1 mid new p.3 f t)
+served_more : (desk : Desk) (requests : List Keyed) (d : Day) (told : List (ℕ × Route)) (turn : ℕ × Route) (old mid new : List Guest) → AreServed desk requests d told old mid → first_asked mid ≡ Some turn → IsTurn desk requests d turn.0 turn.1 mid new → AreServed desk requests d (told ++ turn ∷ []) old new
+served_more desk requests d [] turn old mid new e f t = (subst (λ (gs : List Guest). first_asked gs ≡ Some turn) e f, new, subst (λ (gs : List Guest). IsTurn desk requests d turn.0 turn.1 gs new) e t, refl)
+served_more desk requests d (x ∷ told) turn old mid new p f t = (p.0, p.1, p.2, served_more desk requests d told turn p.1 mid new p.3 f t)
 
 -- so many were answered
-pub record SoFar (desk : Desk) (d : Day) (count : ℕ) (old new : List Guest) : Type 0 where
+pub record SoFar (desk : Desk) (requests : List Keyed) (d : Day) (count : ℕ) (old new : List Guest) : Type 0 where
   pub told : List (ℕ × Route)
   pub many : length told ≡ count
-  pub served : AreServed desk d told old new
+  pub served : AreServed desk requests d told old new
 
-pub none_yet : (desk : Desk) (d : Day) (gs : List Guest) → SoFar desk d 0 gs gs
-none_yet desk d gs = record { told = []; many = refl; served = refl }
+pub none_yet : (desk : Desk) (requests : List Keyed) (d : Day) (gs : List Guest) → SoFar desk requests d 0 gs gs
+none_yet desk requests d gs = record { told = []; many = refl; served = refl }
 
-pub one_more : (desk : Desk) (d : Day) (count number : ℕ) (route : Route) (old mid new : List Guest) → SoFar desk d count old mid → first_asked mid ≡ Some (number, route) → IsTurn desk d number route mid new → SoFar desk d (count + 1) old new
-one_more desk d count number route old mid new s f t = record {
+pub one_more : (desk : Desk) (requests : List Keyed) (d : Day) (count number : ℕ) (route : Route) (old mid new : List Guest) → SoFar desk requests d count old mid → first_asked mid ≡ Some (number, route) → IsTurn desk requests d number route mid new → SoFar desk requests d (count + 1) old new
+one_more desk requests d count number route old mid new s f t = record {
   told = s.told ++ (number, route) ∷ [];
   many = length-append s.told ((number, route) ∷ []) ∙ ap (λ (n : ℕ). n + 1) s.many;
-  served = served_more desk d s.told (number, route) old mid new s.served f t;
+  served = served_more desk requests d s.told (number, route) old mid new s.served f t;
 }
 
 -- a request that asks for no bookings to be sold
-pub turn_of : (desk : Desk) (d : Day) (number : ℕ) (route : Route) (old new : List Guest) → (route ≡ routes.Bookings → ⊥) → IsServed desk d number route old new → IsTurn desk d number route old new
-turn_of desk d number routes.Bookings old new other s = absurd (other refl)
-turn_of desk d number route old new other s = s
+pub turn_of : (desk : Desk) (requests : List Keyed) (d : Day) (number : ℕ) (route : Route) (old new : List Guest) → (route ≡ routes.Bookings → ⊥) → IsServed desk d number route old new → IsTurn desk requests d number route old new
+turn_of desk requests d number routes.Bookings old new other s = absurd (other refl)
+turn_of desk requests d number route old new other s = s
 
 -- nobody waits any more, or enough were answered
-pub all_served : (desk : Desk) (d : Day) (count : ℕ) (old new : List Guest) → count ≤ 16 → SoFar desk d count old new → first_asked new ≡ None → IsServing desk d old new None
-all_served desk d count old new le s e = record { told = s.told; few = omega (arith, s.many); served = s.served; next = inl e }
+pub all_served : (desk : Desk) (requests : List Keyed) (d : Day) (count : ℕ) (old new : List Guest) → count ≤ 16 → SoFar desk requests d count old new → first_asked new ≡ None → IsServing desk requests d old new None
+all_served desk requests d count old new le s e = record { told = s.told; few = omega (arith, s.many); served = s.served; next = inl e }
 
-pub enough_served : (desk : Desk) (d : Day) (old new : List Guest) → SoFar desk d 16 old new → IsServing desk d old new None
-enough_served desk d old new s = record { told = s.told; few = omega (arith, s.many); served = s.served; next = inr s.many }
+pub enough_served : (desk : Desk) (requests : List Keyed) (d : Day) (old new : List Guest) → SoFar desk requests d 16 old new → IsServing desk requests d old new None
+enough_served desk requests d old new s = record { told = s.told; few = omega (arith, s.many); served = s.served; next = inr s.many }
 
 -- the next batch is to be sold
-pub batch_next : (desk : Desk) (d : Day) (count : ℕ) (old mid new : List Guest) (number : ℕ) (rows : ℕ) (selling : Selling) (offered : List Row) → count ≤ 16 → SoFar desk d count old mid → first_asked mid ≡ Some (number, routes.Bookings) → rows ≡ length d.entries
-    → new ≡ mid → IsTakenBatch desk rows number mid selling offered → IsServing desk d old new (Some (selling, offered))
-batch_next desk d count old mid new number rows selling offered le s f many same n = record {
+pub batch_next : (desk : Desk) (requests : List Keyed) (d : Day) (count : ℕ) (old mid new : List Guest) (number : ℕ) (selling : Selling) (request : Request) → count ≤ 16 → SoFar desk requests d count old mid → first_asked mid ≡ Some (number, routes.Bookings)
+    → new ≡ mid → IsTakenBatch desk d number mid selling request → IsServing desk requests d old new (Some (selling, request))
+batch_next desk requests d count old mid new number selling request le s f same n = record {
   told = s.told;
   few = omega (arith, s.many);
-  served = subst (λ (gs : List Guest). AreServed desk d s.told old gs) (sym same) s.served;
+  served = subst (λ (gs : List Guest). AreServed desk requests d s.told old gs) (sym same) s.served;
   next = (
     ap first_asked same ∙ f ∙ ap (λ (x : ℕ). Some (x, routes.Bookings)) (sym n.customer),
-    n.rows_are ∙ many,
-    subst (λ (gs : List Guest). IsBatchOf desk selling.customer.number gs selling.wanted offered) (sym same) (subst (λ (x : ℕ). IsBatchOf desk x mid selling.wanted offered) (sym n.customer) n.batch),
+    n.rows_are,
+    n.keyed ∙ ap₂ (λ (x : ℕ) (gs : List Guest). tag_asked (client_of x gs)) (sym n.customer) (sym same),
+    subst (λ (gs : List Guest). IsBatchOf desk selling.customer.number gs selling.wanted request.batch) (sym same) (subst (λ (x : ℕ). IsBatchOf desk x mid selling.wanted request.batch) (sym n.customer) n.batch),
   );
 }
 
 -- nothing is taken
-pub not_taken : (desk : Desk) (rows number : ℕ) (old new : List Guest) (r : Option (Selling × List Row)) → r ≡ None → IsBatchTaken desk rows number old new r → IsNotSold desk number old new
-not_taken desk rows number old new r is taken = subst (λ (x : Option (Selling × List Row)). IsBatchTaken desk rows number old new x) is taken
+pub not_taken : (desk : Desk) (requests : List Keyed) (d : Day) (number : ℕ) (old new : List Guest) (r : Option (Selling × Request)) → r ≡ None → IsBatchTaken desk requests d number old new r → IsNotSold desk requests d number old new
+not_taken desk requests d number old new r is taken = subst (λ (x : Option (Selling × Request)). IsBatchTaken desk requests d number old new x) is taken
 
 -- a request whose bookings have a fault, or whose customer has hung up
-pub turn_of_bookings : (desk : Desk) (d : Day) (number : ℕ) (route : Route) (old new : List Guest) → route ≡ routes.Bookings → IsNotSold desk number old new → IsTurn desk d number route old new
-turn_of_bookings desk d number route old new is b = subst (λ (r : Route). IsTurn desk d number r old new) (sym is) b
+pub turn_of_bookings : (desk : Desk) (requests : List Keyed) (d : Day) (number : ℕ) (route : Route) (old new : List Guest) → route ≡ routes.Bookings → IsNotSold desk requests d number old new → IsTurn desk requests d number route old new
+turn_of_bookings desk requests d number route old new is b = subst (λ (r : Route). IsTurn desk requests d number r old new) (sym is) b

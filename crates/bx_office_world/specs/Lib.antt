@@ -4,6 +4,9 @@ pub mod Counting
 pub mod Dealt
 pub mod Uncounted
 pub mod Answers
+pub mod KnownKeys
+pub mod Keying
+pub mod Ledgers
 pub mod Maintenance
 pub mod Health
 pub mod Statuses

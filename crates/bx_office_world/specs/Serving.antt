@@ -13,6 +13,9 @@ use Rattle.bx_book.specs.declared.fault.BookFault.{BookFault}
 use Rattle.bx_book.specs.declared.fault.BookFault.TheVariants as book
 use Rattle.bx_day.specs.Day.{Day}
 use Rattle.bx_day_chart.specs.Sights.{sight_of}
+use Rattle.std.specs.Str.{bytes_eq}
+use Rattle.bx_sales.specs.declared.tag.Tag.{Tag}
+use Rattle.bx_market.specs.declared.market.Request.{Request}
 use Rattle.bx_market.specs.declared.market.Answer.{Answer}
 use Rattle.bx_office.specs.declared.client.Client.{Client}
 use Rattle.bx_office.specs.declared.gate.Route.{Route}
@@ -29,6 +32,9 @@ use Rattle.bx_office_door.specs.declared.guest.Guest.{Guest}
 use Rattle.bx_office_world.specs.Statuses.{status_at}
 use Rattle.bx_office_world.specs.Metrics.{metrics_text}
 use Rattle.bx_office_world.specs.Desk.{IsWritten, IsUnanswered}
+use Rattle.bx_office_world.specs.KnownKeys.{keys_in, key_at}
+use Rattle.bx_office_world.specs.Ledgers.{request_at, tag_asked, answers_again}
+use Rattle.bx_office_world.specs.declared.ledger.Keyed.{Keyed}
 use Rattle.bx_office_world.specs.declared.desk.Opened.{Opened}
 use Rattle.bx_office_world.specs.declared.serving.Batch.{Batch}
 use Rattle.bx_office_world.specs.declared.serving.Desk.{Desk}
@@ -113,53 +119,75 @@ abbrev pub IsBatchRead : Desk → ℕ → List Guest → List Guest → Option B
 IsBatchRead desk number old new None = ((client_of number old ≡ None) × (new ≡ old)) ⊎ IsFaulted desk number old new
 IsBatchRead desk number old new (Some batch) = (new ≡ old) × IsBatchOf desk number old batch.wanted batch.offered
 
--- its body has a fault, or its client has hung up: nothing is sold
-abbrev pub IsNotSold : Desk → ℕ → List Guest → List Guest → Type 0
-IsNotSold desk number old new = IsBatchRead desk number old new None ⊎ IsSentAway number old new
+abbrev pub IsSoldReply : ℕ → ℕ → List Row → List Answer → Reply → Type 0
+IsSoldReply last rows wanted answers reply = ((reply.status ≡ statuses.Fine) × (reply.kind ≡ kinds.Csv) × (reply.allowed ≡ methods.Unsaid) × (reply.body.now ≡ sold_text last rows wanted answers))
+    ⊎ (IsPlain statuses.Unavailable reply × (reply.body.now ≡ codes "Memory: what is sold stands in the plan\n"))
 
--- what is to be sold is of the customer of this number, whose socket was just looked at
-pub record IsTakenBatch (desk : Desk) (rows number : ℕ) (guests : List Guest) (selling : Selling) (offered : List Row) : Type 0 where
+-- just the client of this number is told what becomes of a batch
+pub record IsToldSold (last rows : ℕ) (wanted : List Row) (answers : List Answer) (number : ℕ) (old new : List Guest) : Type 0 where
+  pub reply : Reply
+  pub is : IsSoldReply last rows wanted answers reply
+  pub answered : IsAnsweredThere number reply old new
+
+-- Under a key: where the same was asked for, the same is told again, or memory ran out; else that something else was
+abbrev pub IsSameTold : Bool → ℕ → Day → Batch → Keyed → ℕ → List Guest → List Guest → Type 0
+IsSameTold true last d batch request number old new =
+    IsToldSold last request.rows batch.wanted (answers_again request batch.offered d.entries) number old new ⊎ IsRefusing statuses.Unavailable number old new
+IsSameTold false last d batch request number old new = IsRefusing statuses.Unprocessable number old new
+
+abbrev pub IsToldAgain : ℕ → Day → Tag → Batch → Keyed → ℕ → List Guest → List Guest → Type 0
+IsToldAgain last d tag batch request number old new = IsSameTold (bytes_eq request.tag.body tag.body) last d batch request number old new
+
+-- something was asked for under the key of this client's request before, and that is told again
+pub record IsRepeated (desk : Desk) (requests : List Keyed) (d : Day) (number : ℕ) (old new : List Guest) : Type 0 where
+  pub tag : Tag
+  pub asked : tag_asked (client_of number old) ≡ Some tag
+  pub batch : Batch
+  pub of : IsBatchOf desk number old batch.wanted batch.offered
+  pub place : ℕ
+  pub known : key_at (keys_in requests) place ≡ tag.key
+  pub told : IsToldAgain desk.opened.now.last d tag batch (request_at requests place) number old new
+
+-- its body has a fault, its client has hung up, it is told again what was told under its key, or there is no memory for its key: nothing is sold
+abbrev pub IsNotSold : Desk → List Keyed → Day → ℕ → List Guest → List Guest → Type 0
+IsNotSold desk requests d number old new =
+    IsBatchRead desk number old new None ⊎ (IsSentAway number old new ⊎ (IsRepeated desk requests d number old new ⊎ IsRefusing statuses.Unavailable number old new))
+
+-- what is to be sold is of the customer of this number, whose socket was just looked at, under the key of its request
+pub record IsTakenBatch (desk : Desk) (d : Day) (number : ℕ) (guests : List Guest) (selling : Selling) (request : Request) : Type 0 where
   pub customer : selling.customer.number ≡ number
-  pub rows_are : selling.rows ≡ rows
-  pub batch : IsBatchOf desk number guests selling.wanted offered
+  pub rows_are : selling.rows ≡ length d.entries
+  pub keyed : request.tag ≡ tag_asked (client_of number guests)
+  pub batch : IsBatchOf desk number guests selling.wanted request.batch
 
-abbrev pub IsBatchTaken : Desk → ℕ → ℕ → List Guest → List Guest → Option (Selling × List Row) → Type 0
-IsBatchTaken desk rows number old new None = IsNotSold desk number old new
-IsBatchTaken desk rows number old new (Some next) = (new ≡ old) × IsTakenBatch desk rows number old next.0 next.1
+abbrev pub IsBatchTaken : Desk → List Keyed → Day → ℕ → List Guest → List Guest → Option (Selling × Request) → Type 0
+IsBatchTaken desk requests d number old new None = IsNotSold desk requests d number old new
+IsBatchTaken desk requests d number old new (Some next) = (new ≡ old) × IsTakenBatch desk d number old next.0 next.1
 
 -- ---- who waits is answered, each in its turn
 
-abbrev pub IsTurn : Desk → Day → ℕ → Route → List Guest → List Guest → Type 0
-IsTurn desk d number routes.Bookings old new = IsNotSold desk number old new
-IsTurn desk d number route old new = IsServed desk d number route old new
+abbrev pub IsTurn : Desk → List Keyed → Day → ℕ → Route → List Guest → List Guest → Type 0
+IsTurn desk requests d number routes.Bookings old new = IsNotSold desk requests d number old new
+IsTurn desk requests d number route old new = IsServed desk d number route old new
 
 -- these were answered, each as the first whose request waited then, and nobody else
-abbrev pub AreServed : Desk → Day → List (ℕ × Route) → List Guest → List Guest → Type 0
-AreServed desk d [] old new = new ≡ old
-AreServed desk d (turn ∷ more) old new = (first_asked old ≡ Some turn) × (next : List Guest) × IsTurn desk d turn.0 turn.1 old next × AreServed desk d more next new
+abbrev pub AreServed : Desk → List Keyed → Day → List (ℕ × Route) → List Guest → List Guest → Type 0
+AreServed desk requests d [] old new = new ≡ old
+AreServed desk requests d (turn ∷ more) old new =
+    (first_asked old ≡ Some turn) × (next : List Guest) × IsTurn desk requests d turn.0 turn.1 old next × AreServed desk requests d more next new
 
--- what is offered next is of the batch of the first who waits then, which is kept with how many rows the plan has
-abbrev pub IsNextBatch : Desk → Day → List (ℕ × Route) → List Guest → Option (Selling × List Row) → Type 0
+-- what is offered next is of the batch of the first who waits then, under the key of that request, and is kept with how many rows the plan has
+abbrev pub IsNextBatch : Desk → Day → List (ℕ × Route) → List Guest → Option (Selling × Request) → Type 0
 IsNextBatch desk d told new None = (first_asked new ≡ None) ⊎ (length told ≡ 16)
-IsNextBatch desk d told new (Some next) = (first_asked new ≡ Some (next.0.customer.number, routes.Bookings)) × (next.0.rows ≡ length d.entries) × IsBatchOf desk next.0.customer.number new next.0.wanted next.1
+IsNextBatch desk d told new (Some next) =
+    (first_asked new ≡ Some (next.0.customer.number, routes.Bookings)) × (next.0.rows ≡ length d.entries)
+    × (next.1.tag ≡ tag_asked (client_of next.0.customer.number new)) × IsBatchOf desk next.0.customer.number new next.0.wanted next.1.batch
 
-pub record IsServing (desk : Desk) (d : Day) (old new : List Guest) (result : Option (Selling × List Row)) : Type 0 where
+pub record IsServing (desk : Desk) (requests : List Keyed) (d : Day) (old new : List Guest) (result : Option (Selling × Request)) : Type 0 where
   pub told : List (ℕ × Route)
   pub few : length told ≤ 16
-  pub served : AreServed desk d told old new
+  pub served : AreServed desk requests d told old new
   pub next : IsNextBatch desk d told new result
-
--- ---- what is sold
-
-abbrev pub IsSoldReply : ℕ → Selling → List Answer → Reply → Type 0
-IsSoldReply last selling answers reply = ((reply.status ≡ statuses.Fine) × (reply.kind ≡ kinds.Csv) × (reply.allowed ≡ methods.Unsaid) × (reply.body.now ≡ sold_text last selling.rows selling.wanted answers))
-    ⊎ (IsPlain statuses.Unavailable reply × (reply.body.now ≡ codes "Memory: what is sold stands in the plan\n"))
-
--- just the customer of the batch is told it
-pub record IsToldSold (last : ℕ) (selling : Selling) (answers : List Answer) (old new : List Guest) : Type 0 where
-  pub reply : Reply
-  pub is : IsSoldReply last selling answers reply
-  pub answered : IsAnsweredThere selling.customer.number reply old new
 
 -- ---- before the day begins
 

@@ -1,14 +1,19 @@
 //! Who waits at the door is answered.
 
-ghost use Rattle.std.specs.Prelude.{◌≡◌, ◌-◌, IfOk, IfErr};
+ghost use Rattle.std.specs.Prelude.{◌≡◌, ◌-◌, None, true, false, IfOk, IfErr};
 ghost use Rattle.bx_office_world.specs.Counting.{begin_counted, is_without_link, IsOutageNoted};
 ghost use Rattle.bx_office_door.specs.Doors.{guests_of};
-ghost use Rattle.bx_office_world.specs.Serving.{reply_status_of, book_status, IsRefusing, IsServed, IsBatchIn, IsBadBatch, IsBatchRead, IsBatchTaken, IsServing, IsToldSold, IsPrepared};
+ghost use Rattle.bx_office_world.specs.KnownKeys.{known_keys};
+ghost use Rattle.bx_office_world.specs.Keying.{IsKeyPut};
+ghost use Rattle.bx_office_world.specs.Ledgers.{tag_asked, IsKeyTaken};
+ghost use Rattle.bx_office_world.specs.Serving.{reply_status_of, book_status, IsRefusing, IsServed, IsBatchIn, IsBadBatch, IsBatchRead, IsToldAgain, IsBatchTaken, IsServing, IsToldSold, IsPrepared};
+ghost use Rattle.bx_office_door.specs.Guests.{client_of};
 
 use crate::counting::{count_begin, is_without_link};
 use crate::desk::{Opened, Written, answer_of};
 use crate::fault::NoAnswer;
 use crate::health::status_at;
+use crate::ledger::{Keyed, Ledger, tag_for};
 use crate::metrics::{Figures, metrics_text};
 use crate::sold::{sold_text, within_day};
 use bx_base::Bookings;
@@ -16,20 +21,23 @@ use bx_book::{BookFault, read_bookings};
 use bx_day::Exchange;
 use bx_day_chart::DaySight;
 use bx_live::Begin;
-use bx_market::Answer;
+use bx_market::{Answer, Request};
 use bx_office::{Allowed, Kind, Reply, Route, Status};
 use bx_office_door::{Customer, Door};
 use bx_planner::NoQuote;
+use bx_sales::Tag;
 use std::alloc::Global;
 use std::fmt::Display;
 
 /// The most requests that are answered at a time.
 const MAX_ANSWERS: u32 = 16;
 
-/// A batch that is being sold: whose it is, how many rows the plan has, and all that is wanted, also what is not offered.
+/// A batch that is being sold: whose it is, whether it is under a key, how many rows the plan has, and all that is wanted, also what is not
+/// offered.
 #[derive(Drop)]
 pub(crate) struct Selling {
     customer: Customer,
+    pub(crate) is_keyed: bool,
     rows: u16,
     wanted: Bookings,
 }
@@ -104,6 +112,26 @@ fn refuse<F: Display + Drop>(alloc: Global, door: &mut Door, number: u64, status
     }
 }
 
+/// The key of the request of this number, and what it asks for, where it has one.
+fn tag_of_client(door: &Door, number: u64) -> Option<Tag>
+    ensures { result ≡ tag_asked (client_of number (guests_of door.now)) }
+{
+    let client = door.client(number)?;
+    let key = client.key()?;
+    Some(tag_for(key.octets(), client.body()))
+}
+
+/// Puts down the key of a request of so many bookings, after so many rows of the plan, where it has one, and whether that is done.
+fn is_entered(ledger: &mut Ledger, tag: Option<Tag>, rows: u16, count: u16) -> bool
+    ensures done { result ≡ true → IsKeyPut (known_keys ledger.old) tag (known_keys ledger.new) }
+    ensures kept { result ≡ false → ledger.new.requests.items ≡ ledger.old.requests.items }
+{
+    match tag {
+        Some(tag) => ledger.enter(tag, rows, count).is_ok(),
+        None => true,
+    }
+}
+
 impl Desk<'_> {
     /// Notes how a second begins, after which the day has come to this moment.
     pub(crate) fn note(&mut self, moment: u32, begin: Begin)
@@ -154,25 +182,84 @@ impl Desk<'_> {
         }
     }
 
-    /// What is to be sold of the batch of a request, on a day that has so many rows: where its body has no fault, and its customer is still
-    /// there. That is looked at last, so that nothing is sold to who has hung up meanwhile.
+    /// Tells again what was told of a request under this key, where it asked for the same; else that the key is another's.
+    fn tell_again(
+        &self,
+        alloc: Global,
+        door: &mut Door,
+        exchange: &Exchange,
+        number: u64,
+        tag: Tag,
+        batch: &Batch,
+        request: &Keyed,
+    )
+        ensures { IsToldAgain self.now.opened.now.last exchange.now tag batch.now request.now number (guests_of door.old) (guests_of door.new) }
+    {
+        if request.tag.body != tag.body {
+            refuse(
+                alloc,
+                door,
+                number,
+                Status::Unprocessable,
+                "under this key other bookings were asked for",
+            );
+            return;
+        }
+        match request.answers(alloc, &batch.offered, exchange.entries()) {
+            Ok(answers) => tell_batch(
+                alloc,
+                door,
+                self.opened.last,
+                number,
+                request.rows,
+                &batch.wanted,
+                &answers,
+            ),
+            Err(_) => refuse(alloc, door, number, Status::Unavailable, "Memory"),
+        }
+    }
+
+    /// What is to be sold of the batch of a request: where its body has no fault, nothing was asked for under its key before, its customer is
+    /// still there, and its key is put down. Whether the customer is there is looked at last, so that nothing is sold to who has hung up
+    /// meanwhile. What was asked for under its key before is told again, and nothing more is sold.
     fn next_batch(
         &self,
         alloc: Global,
         door: &mut Door,
+        ledger: &mut Ledger,
+        exchange: &Exchange,
         number: u64,
-        rows: u16,
-    ) -> Option<(Selling, Bookings)>
-        ensures { IsBatchTaken self.now rows number (guests_of door.old) (guests_of door.new) result }
+    ) -> Option<(Selling, Request)>
+        ensures taken { IsBatchTaken self.now ledger.old.requests.items exchange.now number (guests_of door.old) (guests_of door.new) result }
+        ensures keys { IsKeyTaken (known_keys ledger.old) result (known_keys ledger.new) }
+        ensures still { result ≡ None → ledger.new.requests.items ≡ ledger.old.requests.items }
     {
-        let Batch { wanted, offered } = self.batch(alloc, door, number)?;
+        let tag = tag_of_client(door, number);
+        let batch = self.batch(alloc, door, number)?;
+        if let Some(tag) = tag {
+            if let Some(place) = ledger.place_of(&tag.key) {
+                let request = &ledger.requests[place];
+                self.tell_again(alloc, door, exchange, number, tag, &batch, request);
+                return None;
+            }
+        }
         let customer = door.customer(number)?;
+        // Read for the prover alone, which learns a limit from it.
+        let _moment = exchange.moment();
+        let rows = exchange.entries().len() as u16;
+        let Batch { wanted, offered } = batch;
+        if !is_entered(ledger, tag, rows, offered.len()) {
+            refuse(alloc, door, number, Status::Unavailable, "Memory");
+            return None;
+        }
         let selling = Selling {
             customer,
+            is_keyed: tag.is_some(),
             rows,
             wanted,
         };
-        Some((selling, offered))
+        let batch = offered;
+        Some((selling, Request { tag, batch }))
     }
 
     /// Keeps the figures of the day as it stands for who asks before it begins.
@@ -194,18 +281,17 @@ impl Desk<'_> {
         &self,
         alloc: Global,
         door: &mut Door,
+        ledger: &mut Ledger,
         exchange: &Exchange,
-    ) -> Option<(Selling, Bookings)>
-        ensures { IsServing self.now exchange.now (guests_of door.old) (guests_of door.new) result }
+    ) -> Option<(Selling, Request)>
+        ensures served { IsServing self.now ledger.old.requests.items exchange.now (guests_of door.old) (guests_of door.new) result }
+        ensures keys { IsKeyTaken (known_keys ledger.old) result (known_keys ledger.new) }
     {
-        // Read for the prover alone, which learns a limit from it.
-        let _moment = exchange.moment();
-        let rows = exchange.entries().len() as u16;
         for _answer in 0..MAX_ANSWERS {
             let (number, route) = door.asked()?;
             match route {
                 Route::Bookings => {
-                    if let Some(next) = self.next_batch(alloc, door, number, rows) {
+                    if let Some(next) = self.next_batch(alloc, door, ledger, exchange, number) {
                         return Some(next);
                     }
                 }
@@ -224,10 +310,33 @@ pub(crate) fn tell_sold(
     selling: &Selling,
     answers: &[Answer],
 )
-    ensures { IsToldSold last selling.now answers.now (guests_of door.old) (guests_of door.new) }
+    ensures { IsToldSold last selling.now.rows selling.now.wanted answers.now selling.now.customer.number (guests_of door.old) (guests_of door.new) }
 {
     let number = selling.customer.number();
-    match sold_text(alloc, last, selling.rows, &selling.wanted, answers) {
+    tell_batch(
+        alloc,
+        door,
+        last,
+        number,
+        selling.rows,
+        &selling.wanted,
+        answers,
+    );
+}
+
+/// Tells the client of this number what was told of a batch: of these bookings, after so many rows of the plan.
+fn tell_batch(
+    alloc: Global,
+    door: &mut Door,
+    last: u32,
+    number: u64,
+    rows: u16,
+    wanted: &Bookings,
+    answers: &[Answer],
+)
+    ensures { IsToldSold last rows wanted.now answers.now number (guests_of door.old) (guests_of door.new) }
+{
+    match sold_text(alloc, last, rows, wanted, answers) {
         Ok(text) => door.answer(number, reply_of(Status::Fine, Kind::Csv, &text)),
         Err(_) => door.answer(
             number,

@@ -1,43 +1,49 @@
 //! A live day with a booking office beside it.
 
 ghost use Rattle.std.specs.Prelude.{◌≡◌, [], false};
+ghost use Rattle.std.proofs.Common.{refl, ◌∙◌};
+ghost use Rattle.bx_office_world.specs.KnownKeys.{known_keys};
+ghost use Rattle.bx_office_world.specs.Ledgers.{IsKeyTaken};
 ghost use Rattle.bx_office_world.specs.Uncounted.{AreUncounted};
 
 use crate::counting::{count_message, count_sold, seconds_since};
 use crate::desk::Opened;
+use crate::ledger::Ledger;
 use crate::metrics::Figures;
 use crate::serving::{Desk, Selling, tell_sold};
-use bx_base::Bookings;
 use bx_day::Exchange;
 use bx_day_chart::{DaySight, Outages};
 use bx_devices::WriteFailed;
 use bx_events::LiveEvent;
 use bx_frames::{Frame, LinkFault};
 use bx_live::{Begin, CannotLog, Loss, World};
-use bx_market::{Answer, Market};
+use bx_market::{Answer, Market, Request};
 use bx_office_door::Door;
 use bx_q931::Octets;
 use std::alloc::Global;
 use std::cell::RefCell;
 use std::rc::Rc;
 
-/// A booking office: its door, what it was opened with, and what it is at.
+/// A booking office: its door, what it was opened with, what was asked for under keys, and what it is at.
 #[derive(Drop)]
 pub struct Office<'a> {
     alloc: Global,
     door: Rc<RefCell<Door>>,
     desk: Desk<'a>,
+    ledger: Ledger,
     selling: Option<Selling>,
     /// What the clock showed when the journal was brought to the disk last, in nanoseconds.
     synced: Option<u128>,
 }
 
 impl<'a> Office<'a> {
-    /// An office that was opened with this, at this door. Nothing was counted, and nobody was sold to.
-    pub fn new(alloc: Global, door: Rc<RefCell<Door>>, opened: &'a Opened) -> Self
+    /// An office that was opened with this, at this door, on a day of which these requests under keys are known. Nothing was counted, and nobody
+    /// was sold to.
+    pub fn new(alloc: Global, door: Rc<RefCell<Door>>, opened: &'a Opened, ledger: Ledger) -> Self
         ensures opened { result.desk.opened.now ≡ opened.now }
         ensures figures { AreUncounted result.desk.figures }
         ensures sight { (result.desk.sight.outages.spans.items ≡ []) × (result.desk.sight.is_over ≡ false) }
+        ensures ledger { result.ledger ≡ ledger }
         ensures idle { (result.selling ≡ None) × (result.synced ≡ None) }
     {
         let desk = Desk {
@@ -52,6 +58,7 @@ impl<'a> Office<'a> {
             alloc,
             door,
             desk,
+            ledger,
             selling: None,
             synced: None,
         }
@@ -65,10 +72,13 @@ impl<'a> Office<'a> {
 
     /// Keeps the figures for who asks before the day begins, and answers who waits, up to the first that asks for bookings to be sold: whose they
     /// are, and those that are offered.
-    fn serve(&self, exchange: &Exchange) -> Option<(Selling, Bookings)> {
+    fn serve(&mut self, exchange: &Exchange) -> Option<(Selling, Request)>
+        ensures keys { IsKeyTaken (known_keys self.old.ledger) result (known_keys self.new.ledger) }
+    {
         let mut guard = self.door.try_borrow_mut().ok()?;
         self.desk.prepare(self.alloc, &mut guard, exchange);
-        self.desk.serve(self.alloc, &mut guard, exchange)
+        self.desk
+            .serve(self.alloc, &mut guard, &mut self.ledger, exchange)
     }
 
     /// Tells the customer of a batch what is sold of it.
@@ -88,7 +98,7 @@ pub struct OfficeWorld<'a, W> {
 }
 
 impl<'a, W: World> World for OfficeWorld<'a, W> {
-    ghost did = { λ s acts t. W.did s.world acts t.world };
+    ghost did = { λ s acts t. W.did s.world acts t.world × (known_keys t.office.ledger ≡ known_keys s.office.ledger) };
 
     fn begin(&mut self, second: u32) -> Begin {
         let begin = self.world.begin(second);
@@ -141,24 +151,23 @@ impl<'a, W: World> World for OfficeWorld<'a, W> {
         self.world.end_day();
     }
 
-    ghost did_nothing = { λ s. W.did_nothing s.world };
+    ghost did_nothing = { λ s. (W.did_nothing s.world, refl) };
 
-    ghost did_more = { λ s t u xs ys p q. W.did_more s.world t.world u.world xs ys p q };
+    ghost did_more = { λ s t u xs ys p q. (W.did_more s.world t.world u.world xs ys p.0 q.0, q.1 ∙ p.1) };
 }
 
 impl<'a, W: World> Market for OfficeWorld<'a, W> {
-    ghost use Rattle.bx_market.specs.Deals.{acts_of};
-    ghost use Rattle.bx_office_world.specs.Dealt.{dealt_so, dealt_on};
+    ghost use Rattle.bx_office_world.specs.Dealt.{IsDealt, dealt_so, dealt_on};
 
-    ghost dealt = { λ s deals t. W.did s.world (acts_of deals) t.world };
+    ghost dealt = { λ s deals t. IsDealt W.did s.world t.world (known_keys s.office.ledger) (known_keys t.office.ledger) deals };
 
-    fn ask(&mut self, exchange: &Exchange) -> Option<Bookings> {
+    fn ask(&mut self, exchange: &Exchange) -> Option<Request> {
         let (answers, shown) = self.office.seen()?;
         self.office.desk.figures.answers = answers;
         self.office.desk.figures.since_sync = seconds_since(self.office.synced, shown);
-        let (selling, offered) = self.office.serve(exchange)?;
+        let (selling, request) = self.office.serve(exchange)?;
         self.office.selling = Some(selling);
-        Some(offered)
+        Some(request)
     }
 
     fn answer(&mut self, answers: &[Answer]) {
@@ -166,10 +175,14 @@ impl<'a, W: World> Market for OfficeWorld<'a, W> {
             return;
         };
         count_sold(&mut self.office.desk.figures, answers);
+        let alloc = self.office.alloc;
+        if selling.is_keyed {
+            self.office.ledger.tell(alloc, answers);
+        }
         self.office.tell_sold(&selling, answers);
     }
 
-    ghost dealt_by = { λ s t acts p. dealt_so W.did s.world t.world acts p };
+    ghost dealt_by = { λ s t acts p. dealt_so W.did s.world t.world acts p.0 p.1 };
 
-    ghost dealt_more = { λ s t u xs ys p q. dealt_on W.did W.did_more s.world t.world u.world xs ys p q };
+    ghost dealt_more = { λ s t u xs ys p q. dealt_on W.did W.did_more _ _ _ s.world t.world u.world xs ys p q };
 }
