@@ -30,6 +30,8 @@ mod meanings;
 #[cfg(test)]
 mod notes;
 #[cfg(test)]
+mod origins;
+#[cfg(test)]
 mod plan_texts;
 #[cfg(test)]
 mod plan_writers;

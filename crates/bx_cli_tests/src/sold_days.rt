@@ -10,7 +10,7 @@ use std::fs;
 use std::test::Fail;
 
 /// A plan of another hand, which is proved and not first fit; and journals of it and of the plan in `two.txt`, two of them by the rules 2.
-static FILES: [(&str, &str); 16] = [
+static FILES: [(&str, &str); 17] = [
     (
         "hand.txt",
         "bx-plan 3\nchannels 1 2\nbookings 1\n0 60 5 1234 2 free out\nprices 0\ntotal 5\nend\n",
@@ -18,6 +18,10 @@ static FILES: [(&str, &str); 16] = [
     (
         "sold.journal",
         "bx-journal 2 rules 3\nplan 7c35ee9492f27e9c9fec6d438270c41290c5bc10066cef31da15ea69a39e4bae\nday live 1577836800 1\ntick\nheard 0802800107\nsold 30 50 6 5678 - free out\nsold 60 90 2 99 - must out\ntick\ntick\ntick\ntick\ntick\ntick\ntick\ntick\ntick\ntick\ntick\ntick\ntick\ntick\ntick\ntick\ntick\ntick\ntick\ntick\ntick\ntick\ntick\ntick\ntick\ntick\ntick\ntick\ntick\nheard 0802800407\n",
+    ),
+    (
+        "keyed.journal",
+        "bx-journal 2 rules 3\nplan 7c35ee9492f27e9c9fec6d438270c41290c5bc10066cef31da15ea69a39e4bae\nday live 1577836800 1\ntick\nheard 0802800107\nsold under 0123456789abcdef0123456789abcdef fedcba9876543210fedcba9876543210 30 50 6 5678 - free out\nsold 60 90 2 99 - must out\ntick\ntick\ntick\ntick\ntick\ntick\ntick\ntick\ntick\ntick\ntick\ntick\ntick\ntick\ntick\ntick\ntick\ntick\ntick\ntick\ntick\ntick\ntick\ntick\ntick\ntick\ntick\ntick\ntick\nheard 0802800407\n",
     ),
     (
         "older.journal",
@@ -80,7 +84,7 @@ const SAME: &str =
 
 /// What the journals tell of their days: of one by the rules 2 the same as of one by the rules 3, where these hear all alike, and where the
 /// far end lacks a call it is asked for, what each of them makes of it.
-static CASES: [Case; 25] = [
+static CASES: [Case; 26] = [
     (
         "audit @two.txt @sold.journal",
         Prints("1 live\n2 missed\n3 refused\n4 live\n5 waiting\nmaintenance none\n"),
@@ -93,6 +97,12 @@ static CASES: [Case; 25] = [
     ),
     (
         "sold @two.txt @sold.journal",
+        Prints(
+            "bx-plan 3\nchannels 1 2\nbookings 5\n0 60 5 1234 1 free out\n10 20 4 1234 2 free in\n15 20 1 77 - free out\n30 50 6 5678 2 free out\n60 90 2 99 1 must out\nprices 1\n15 1\ntotal 17\nend\n",
+        ),
+    ),
+    (
+        "sold @two.txt @keyed.journal",
         Prints(
             "bx-plan 3\nchannels 1 2\nbookings 5\n0 60 5 1234 1 free out\n10 20 4 1234 2 free in\n15 20 1 77 - free out\n30 50 6 5678 2 free out\n60 90 2 99 1 must out\nprices 1\n15 1\ntotal 17\nend\n",
         ),

@@ -1,6 +1,5 @@
 -- Why a run with sales is over before its end.
 use Rattle.std.proofs.Common.{◌≡◌, ℕ, Bool, true, false, List, [], ◌∷◌, Option, Some, None, Result, Ok, Err, refl, sym, subst, ap, is_some, ◌∙◌}
-use Rattle.bx_base.specs.Bookings.{Row}
 use Rattle.bx_day.specs.Day.{Day}
 use Rattle.bx_events.specs.Events.{Sold, OnLink, WithoutLink, HeardByRulesTwo}
 use Rattle.bx_line_world.proofs.Apart.{starts_apart, lost_before}
@@ -18,6 +17,7 @@ use Rattle.bx_live.specs.Logs.{OnLog}
 use Rattle.bx_live.specs.declared.log.Log.{Log}
 use Rattle.bx_live.specs.declared.schedule.Schedule.{Schedule}
 use Rattle.bx_market.specs.declared.market.Answer.{Answer}
+use Rattle.bx_market.specs.declared.market.Request.{Request}
 use Rattle.bx_market.specs.Deals.{Deal, Ran, Asked, Answered, acts_of}
 use Rattle.bx_market.specs.SaleRuns.{IsSaleRun, IsWholeSaleRun, IsBrokenRun}
 use Rattle.bx_market.specs.Stands.{Stand, Within, Filing, Telling, GoesByDeal, IsMarketRun}
@@ -31,8 +31,8 @@ use Rattle.bx_live_commands.specs.OfficeRuns.{did_at_door, deals_by_line, SellsB
 -- nothing more is done there
 abbrev IsOverAt : Stand → Type 0
 IsOverAt (Within p) = IsOver p
-IsOverAt (Filing shown d batch sold) = ⊥
-IsOverAt (Telling shown d batch sold) = ⊥
+IsOverAt (Filing shown d tag batch sold) = ⊥
+IsOverAt (Telling shown d tag batch sold) = ⊥
 
 abbrev Fails : Act → Stand → Type 0
 Fails (Logged event false) to = (d : Day) × (to ≡ Within (Over d))
@@ -66,33 +66,33 @@ module _ (channels : List Bool) where
   -- what cannot be logged, or on the disk, is the last act
   fails_at : (p : Stand) (act : Act) (to : Stand) → GoesByDeal channels p (Ran act) to → Fails act to
   fails_at (Within p) act to (due, same) = fails_within p act to (stops p act due) same
-  fails_at (Filing shown d batch sold) (Logged (Sold line) false) to goes = (d, goes)
-  fails_at (Filing shown d batch sold) (Logged (OnLink event) done) to goes = absurd goes
-  fails_at (Filing shown d batch sold) (Logged WithoutLink done) to goes = absurd goes
-  fails_at (Filing shown d batch sold) (Logged (HeardByRulesTwo octets) done) to goes = absurd goes
-  fails_at (Filing shown d batch sold) (Synced false) to goes = (d, goes)
-  fails_at (Telling shown d batch sold) (Logged event false) to goes = absurd goes
-  fails_at (Telling shown d batch sold) (Synced false) to goes = absurd goes
+  fails_at (Filing shown d tag batch sold) (Logged (Sold line) false) to goes = (d, goes)
+  fails_at (Filing shown d tag batch sold) (Logged (OnLink event) done) to goes = absurd goes
+  fails_at (Filing shown d tag batch sold) (Logged (WithoutLink rules) done) to goes = absurd goes
+  fails_at (Filing shown d tag batch sold) (Logged (HeardByRulesTwo octets) done) to goes = absurd goes
+  fails_at (Filing shown d tag batch sold) (Synced false) to goes = (d, goes)
+  fails_at (Telling shown d tag batch sold) (Logged event false) to goes = absurd goes
+  fails_at (Telling shown d tag batch sold) (Synced false) to goes = absurd goes
   fails_at p act to goes = tt
 
   -- after any other the run goes on
   goes_on_at : (p : Stand) (act : Act) (to : Stand) → GoesByDeal channels p (Ran act) to → GoesOnAt act to
   goes_on_at (Within p) act to (due, same) = on_within p act to (goes_on p act due) same
-  goes_on_at (Filing shown d batch sold) (Logged (Sold line) true) to (d1, is, same) = λ over. subst IsOverAt same over
-  goes_on_at (Filing shown d batch sold) (Logged (Sold line) false) to goes = tt
-  goes_on_at (Filing shown d batch sold) (Synced true) to goes = λ over. subst IsOverAt goes over
-  goes_on_at (Filing shown d batch sold) (Synced false) to goes = tt
+  goes_on_at (Filing shown d tag batch sold) (Logged (Sold line) true) to (d1, is, under, same) = λ over. subst IsOverAt same over
+  goes_on_at (Filing shown d tag batch sold) (Logged (Sold line) false) to goes = tt
+  goes_on_at (Filing shown d tag batch sold) (Synced true) to goes = λ over. subst IsOverAt goes over
+  goes_on_at (Filing shown d tag batch sold) (Synced false) to goes = tt
   goes_on_at p act to goes = absurd goes
 
-  asked_on : (p : Stand) (shown : Day) (batch : Option (List Row)) (to : Stand) → GoesByDeal channels p (Asked shown batch) to → IsOverAt to → ⊥
+  asked_on : (p : Stand) (shown : Day) (request : Option Request) (to : Stand) → GoesByDeal channels p (Asked shown request) to → IsOverAt to → ⊥
   asked_on (Within (Between d)) shown None to (is, same) over = subst IsOverAt same over
   asked_on (Within (Between d)) shown (Some batch) to (is, same) over = subst IsOverAt same over
   asked_on p shown batch to goes over = goes
 
   answered_on : (p : Stand) (answers : List Answer) (to : Stand) → GoesByDeal channels p (Answered answers) to → IsOverAt to → ⊥
   answered_on (Within p) answers to goes over = goes
-  answered_on (Filing shown d batch sold) answers to (none, nothing, told, same) over = subst IsOverAt same over
-  answered_on (Telling shown d batch sold) answers to (are, told, same) over = subst IsOverAt same over
+  answered_on (Filing shown d tag batch sold) answers to (none, nothing, told, same) over = subst IsOverAt same over
+  answered_on (Telling shown d tag batch sold) answers to (are, told, same) over = subst IsOverAt same over
 
   module _ {D : Type 0} (holds may_leave : D → List ℕ → Type 0) (moment : D → ℕ) (left_since : D → ℕ → List ℕ → Type 0) (has_failed : D → Bool) where
     abbrev Kept : Option D → Act → Option D → Type 0

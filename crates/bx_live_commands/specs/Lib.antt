@@ -4,4 +4,6 @@ pub mod OfficeRuns
 pub mod FirstFits
 pub mod LiveDays
 pub mod LiveInside
+pub mod DoorWatches
+pub mod OfficePlaces
 pub mod LiveRefusals

@@ -49,7 +49,11 @@ pub fn run_by_clock<'a, 'h, H: Clock + Files + Eprint, W: Wire + Drop, D: Disk +
     ensures stopped { OnErr result (StopsByLine W.did D.holds D.may_leave D.moment D.left_since D.has_failed wire schedule resumed.log resumed.exchange) }
     ensures ran { IfOk result (RunsByLine W.did D.holds D.may_leave D.moment D.left_since D.has_failed wire schedule resumed.log turns resumed.exchange) }
 {
-    let Resumed { mut exchange, log } = resumed;
+    let Resumed {
+        mut exchange,
+        log,
+        ..
+    } = resumed;
     let line = Line::new(true, wire).going_on(exchange.moment());
     let world = LineWorld::new(schedule, line, log);
     let telling = Telling::new(rt, world, told.clock(), told.is_shown);
@@ -57,6 +61,7 @@ pub fn run_by_clock<'a, 'h, H: Clock + Files + Eprint, W: Wire + Drop, D: Disk +
         world: telling,
         rt,
         plan: Some(told.plan),
+        door: None,
         is_shown: told.is_shown,
     };
     let done = run_held(&mut exchange, &mut watched, turns);

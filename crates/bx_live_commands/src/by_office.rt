@@ -4,6 +4,7 @@ ghost use Rattle.std.specs.Prelude.{◌≡◌, true, is_some, IfOk, OnErr};
 ghost use Rattle.bx_live_commands.specs.OfficeRuns.{SellsByLine, StopsSelling};
 
 use crate::by_line::Told;
+use crate::door_watch::DoorWatch;
 use crate::plan_file::PlanWatched;
 use bx_base::ChannelSet;
 use bx_calendar::{Clock as DayClock, Day};
@@ -14,18 +15,19 @@ use bx_line_world::{Line, LineWorld, Wire};
 use bx_live::{CannotLog, Schedule};
 use bx_market::run_market;
 use bx_office_door::{Door, OfficeWire};
-use bx_office_world::{Office, OfficeWorld, Opened};
+use bx_office_world::{Ledger, Office, OfficeWorld, Opened};
 use bx_world::Telling;
 use std::cell::RefCell;
 use std::fs::Files;
 use std::rc::Rc;
 use std::rt::Clock;
 
-/// What a booking office is opened with: its door, which the wire has too, the channels in service, and the day.
+/// What a booking office is opened with: its door, which the wire has too, and who tells of it, the channels in service, and the day.
 #[derive(Drop)]
 pub struct Premises {
     pub door: Rc<RefCell<Door>>,
     pub beside: Rc<RefCell<Door>>,
+    pub watched: Rc<RefCell<Door>>,
     pub channels: ChannelSet,
     pub day: Day,
 }
@@ -67,10 +69,16 @@ pub fn run_with_office<
     ensures ran { IfOk result
         (SellsByLine W.did D.holds D.may_leave D.moment D.left_since D.has_failed wire schedule resumed.log premises.channels turns resumed.exchange) }
 {
-    let Resumed { mut exchange, log } = resumed;
+    let Resumed {
+        mut exchange,
+        tags,
+        log,
+    } = resumed;
+    let ledger = Ledger::of(rt.alloc(), &exchange, &tags);
     let Premises {
         door,
         beside,
+        watched,
         channels,
         day,
     } = premises;
@@ -85,9 +93,10 @@ pub fn run_with_office<
             world: telling,
             rt,
             plan: Some(told.plan),
+            door: Some(DoorWatch::new(watched)),
             is_shown: told.is_shown,
         },
-        office: Office::new(rt.alloc(), door, &opened),
+        office: Office::new(rt.alloc(), door, &opened, ledger),
     };
     let done = run_market(rt.alloc(), &mut exchange, &mut market, channels, turns);
     market.world.world.clear();

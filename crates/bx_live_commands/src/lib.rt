@@ -3,6 +3,7 @@
 
 mod by_line;
 mod by_office;
+mod door_watch;
 mod live_files;
 mod office;
 mod plan_file;

@@ -6,6 +6,8 @@ ghost use Rattle.bx_day_openings.specs.OpeningRefusals.{IsUnheard};
 ghost use Rattle.bx_live_commands.specs.LiveDays.{has_office, AreLiveTurns};
 ghost use Rattle.bx_live_commands.specs.LiveInside.{IsOpenAt};
 ghost use Rattle.bx_live_commands.specs.LiveRefusals.{IsNoOffice};
+ghost use Rattle.bx_live_commands.specs.OfficePlaces.{port_behind, socket_behind, place_behind, IsOriginNamed};
+ghost use Rattle.bx_office.specs.Targets.{text_of};
 
 use crate::by_office::Premises;
 use bx_base::ChannelSet;
@@ -14,7 +16,7 @@ use bx_day::Exchange;
 use bx_day_openings::{
     AFTER_THE_LAST, DayCommandFault, Hours, System, day_turns, listener_at, unheard,
 };
-use bx_office::Place as DoorPlace;
+use bx_office::{Origin, Place as DoorPlace};
 use bx_office_door::{Door, Listening};
 use bx_request::{LiveRequest, Place};
 use std::alloc::{AllocError, Global};
@@ -35,22 +37,55 @@ fn listening<H: System>(rt: &H, place: Place<'_>) -> io::Result<Listening> {
     }
 }
 
-/// A door at a place, of a day that begins then, in nanoseconds since 1970. `CannotListen` where nobody can be let in there.
+/// A port as the door knows it, behind a proxy of this origin where there is one.
+fn port_behind(port: u16, origin: Option<Origin>) -> DoorPlace
+    ensures { result ≡ port_behind port origin }
+{
+    match origin {
+        Some(origin) => DoorPlace::ProxiedPort(port, origin),
+        None => DoorPlace::Port(port),
+    }
+}
+
+/// A socket as the door knows it, behind a proxy of this origin where there is one.
+fn socket_behind(origin: Option<Origin>) -> DoorPlace
+    ensures { result ≡ socket_behind origin }
+{
+    match origin {
+        Some(origin) => DoorPlace::ProxiedSocket(origin),
+        None => DoorPlace::Socket,
+    }
+}
+
+/// The origin that the words name, which have none of more than 255 octets.
+fn origin_of(text: Option<&str>) -> Option<Origin>
+    ensures { IsOriginNamed (text_of text.entry) result }
+{
+    match text {
+        Some(text) => Origin::new(text.as_bytes()),
+        None => None,
+    }
+}
+
+/// A door at a place, behind a proxy of this origin where there is one, of a day that begins then, in nanoseconds since 1970. `CannotListen` where
+/// nobody can be let in there.
 fn door_at<'a, H: System>(
     rt: &H,
     place: Place<'a>,
+    origin: Option<Origin>,
     opens: u128,
 ) -> Result<Door, DayCommandFault<'a>>
+    ensures place { IfOk result (λ door. door.place ≡ place_behind place.entry origin) }
     ensures opens { IfOk result (λ door. door.opens ≡ opens) }
     ensures refused { IfErr result IsUnheard }
 {
     match (listening(rt, place), place) {
         (Ok(listening), Place::Port(port)) => {
-            let place = DoorPlace::Port(port);
+            let place = port_behind(port, origin);
             Ok(Door::new(rt.alloc(), place, listening, opens))
         }
         (Ok(listening), Place::Socket(_)) => {
-            let place = DoorPlace::Socket;
+            let place = socket_behind(origin);
             Ok(Door::new(rt.alloc(), place, listening, opens))
         }
         (Err(cause), Place::Port(port)) => {
@@ -74,9 +109,11 @@ fn premises_at(
         return Err(AllocError);
     };
     let beside = door.clone()?;
+    let watched = door.clone()?;
     Ok(Premises {
         door,
         beside,
+        watched,
         channels,
         day,
     })
@@ -96,7 +133,8 @@ pub(crate) fn premises_of<'a, H: System>(
 {
     match (request.office, request.journal) {
         (Some(place), Some(_)) => {
-            let door = door_at(rt, place, hours.schedule.instant(0))?;
+            let origin = origin_of(request.origin);
+            let door = door_at(rt, place, origin, hours.schedule.instant(0))?;
             Ok(Some(premises_at(rt.alloc(), door, channels, hours.day)?))
         }
         _ => Ok(None),

@@ -2,6 +2,7 @@
 
 ghost use Rattle.std.specs.Prelude.{◌≡◌};
 
+use crate::door_watch::DoorWatch;
 use bx_devices::WriteFailed;
 use bx_events::LiveEvent;
 use bx_frames::{Frame, LinkFault};
@@ -59,17 +60,43 @@ impl<'a> PlanFile<'a> {
 }
 
 /// A world that looks in each second that begins whether the plan of its day still stands as it was, and tells once on standard error where
-/// it does not: the day goes by the plan that was read. What standard error does with it changes nothing.
+/// it does not: the day goes by the plan that was read. Where an office is open it tells at most once a minute that no file descriptor is left
+/// for whoever waits there. What standard error does with it changes nothing.
 #[derive(Drop)]
 pub(crate) struct PlanWatched<'a, 'h, W, H> {
     pub(crate) world: W,
     pub(crate) rt: &'h H,
     /// None once it was told.
     pub(crate) plan: Option<PlanFile<'a>>,
+    /// The door of the office, where one is open.
+    pub(crate) door: Option<DoorWatch>,
     pub(crate) is_shown: bool,
 }
 
 impl<'a, 'h, W, H: Files + Eprint> PlanWatched<'a, 'h, W, H> {
+    /// Begins a line, where the moment stands on the one before.
+    fn clear(&self) {
+        if self.is_shown {
+            let _ = eprint!(self.rt; "\r");
+        }
+    }
+
+    /// Tells that no file descriptor is left for whoever waits at the door, where that is to be told now.
+    fn look_at_door(&mut self)
+        ensures { self.new.world ≡ self.old.world }
+    {
+        let Some(door) = &mut self.door else {
+            return;
+        };
+        if !door.has_news() {
+            return;
+        }
+        self.clear();
+        let _ = eprintln!(self.rt;
+            "note: no file descriptor is left: whoever asks at the office waits"
+        );
+    }
+
     /// Tells that the plan is another, where that is new.
     fn look(&mut self)
         ensures { self.new.world ≡ self.old.world }
@@ -81,9 +108,7 @@ impl<'a, 'h, W, H: Files + Eprint> PlanWatched<'a, 'h, W, H> {
             return;
         }
         self.plan = None;
-        if self.is_shown {
-            let _ = eprint!(self.rt; "\r");
-        }
+        self.clear();
         let name = plan.name;
         let _ = eprintln!(self.rt;
             "note: {name} was changed: the day goes by the plan that was read"
@@ -97,6 +122,7 @@ impl<'a, 'h, W: World, H: Files + Eprint> World for PlanWatched<'a, 'h, W, H> {
     fn begin(&mut self, second: u32) -> Begin {
         let begin = self.world.begin(second);
         self.look();
+        self.look_at_door();
         begin
     }
 

@@ -164,6 +164,8 @@ pub struct LiveRequest<'a> {
     pub journal: Option<&'a str>,
     /// Where its booking office listens, where there is one. Nothing is sold outside the journal, so there is one only beside a journal.
     pub office: Option<Place<'a>>,
+    /// The origin by which a proxy in front of the office is asked, as `https://office.example`, where there is one.
+    pub origin: Option<&'a str>,
     pub turns: Option<u32>,
     pub is_quiet: bool,
 }

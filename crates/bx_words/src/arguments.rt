@@ -63,6 +63,7 @@ pub enum Argument {
     FarPace,
     Office,
     OfficePort,
+    Origin,
     Records,
     Capture,
     Octets,
@@ -138,6 +139,9 @@ const OFFICE: &str =
 
 const OFFICE_PORT: &str = "The TCP port on 127.0.0.1 for it, in place of a socket";
 
+const ORIGIN: &str =
+    "The origin of a proxy in front of it, as https://office.example: who asks by its host is answered too, and its page";
+
 const RECORDS: &str =
     "When the day has ended write its records into this file, as CSV for bills and spreadsheets";
 
@@ -179,6 +183,7 @@ fn name_of<'a>(argument: Argument) -> &'a str {
         Argument::Pace | Argument::FarPace => "pace",
         Argument::Office => "office",
         Argument::OfficePort => "office-port",
+        Argument::Origin => "origin",
         Argument::Records => "records",
         Argument::Capture => "capture",
         Argument::Octets => "octets",
@@ -204,6 +209,7 @@ fn value_of<'a>(argument: Argument) -> &'a str {
         Argument::Turns | Argument::FarTurns | Argument::Pace | Argument::FarPace => "N",
         Argument::Port | Argument::OfficePort => "P",
         Argument::Socket | Argument::Office => "PATH",
+        Argument::Origin => "ORIGIN",
         Argument::ServedLine | Argument::FarLine => "HERE:THERE",
         Argument::Octets => "HEX",
         Argument::Row => "ROW",
@@ -288,6 +294,7 @@ fn help_of<'a>(argument: Argument) -> &'a str {
         Argument::FarPace => FAR_PACE,
         Argument::Office => OFFICE,
         Argument::OfficePort => OFFICE_PORT,
+        Argument::Origin => ORIGIN,
         Argument::Records => RECORDS,
         Argument::Capture => CAPTURE,
         Argument::Octets => OCTETS,
@@ -309,7 +316,7 @@ fn needs_of(argument: Argument) -> &'static [&'static str] {
         Argument::FarLine => &["date"],
         Argument::Live | Argument::FarPace | Argument::FarTurns => &["line"],
         Argument::Pace => &["live"],
-        Argument::Office | Argument::OfficePort => &["live", "journal"],
+        Argument::Office | Argument::OfficePort | Argument::Origin => &["live", "journal"],
         _ => &[],
     }
 }

@@ -181,6 +181,7 @@ static COMMANDS: [Words; 14] = [
             Argument::Journal(Journal::Kept),
             Argument::Office,
             Argument::OfficePort,
+            Argument::Origin,
             Argument::Pace,
             Argument::Turns,
             Argument::Records,

@@ -7,6 +7,7 @@ mod command_line;
 mod faults;
 mod line_ports;
 mod meanings;
+mod origins;
 mod reading;
 
 pub use meanings::explain_fault;

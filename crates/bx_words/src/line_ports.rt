@@ -3,7 +3,7 @@
 use bx_request::LinePorts;
 
 /// A port, 1 to 65535.
-fn port_in(text: &str) -> Option<u16> {
+pub(crate) fn port_in(text: &str) -> Option<u16> {
     let is_short = !text.is_empty() && text.len() <= 5;
     if is_short && text.bytes().all(|digit| digit.is_ascii_digit()) {
         text.parse::<u16>().ok().filter(|port| *port > 0)

@@ -4,6 +4,7 @@ use crate::channel_list::channel_numbers;
 use crate::command_line::{Name, name_of_word, program_of_words};
 use crate::faults::FAULTS;
 use crate::line_ports::ports_in;
+use crate::origins::origin_in;
 use bx_request::{
     AuditRequest, Call, CaptureWords, DayChartRequest, DayHours, FarLineRequest, FarRequest,
     FileRequest, LinePorts, LiveRequest, Peer, Place, RecordsRequest, RecordsWords,
@@ -250,6 +251,22 @@ fn office_of<'a>(alloc: Global, matches: &ArgMatches<'a>) -> Result<Option<Place
     }
 }
 
+/// The origin that these words name, of a proxy in front of an office that they want.
+fn origin_of<'a>(alloc: Global, matches: &ArgMatches<'a>) -> Result<Option<&'a str>, Refusal> {
+    let Some(text) = matches.get_str("origin") else {
+        return Ok(None);
+    };
+    match origin_in(text) {
+        Some(origin) => Ok(Some(origin)),
+        None => {
+            let message = format!(in alloc;
+                "invalid value '{text}' for '--origin <ORIGIN>': not http:// or https://, a host, and a port where it has one"
+            )?;
+            Err(wrong(alloc, &message))
+        }
+    }
+}
+
 /// The day that these words want to be run by the clock.
 fn live_request<'a>(alloc: Global, matches: &ArgMatches<'a>) -> Result<Request<'a>, Refusal> {
     if matches.get_str("capture").is_some() || matches.get_str("records").is_some() {
@@ -260,12 +277,20 @@ fn live_request<'a>(alloc: Global, matches: &ArgMatches<'a>) -> Result<Request<'
     }
     let line = line_of(alloc, word(matches, "line"))?;
     let office = office_of(alloc, matches)?;
+    let origin = origin_of(alloc, matches)?;
+    if office.is_none() && origin.is_some() {
+        return Err(wrong(
+            alloc,
+            "'--origin <ORIGIN>' stands only beside '--office <PATH>' or '--office-port <P>'",
+        ));
+    }
     Ok(Request::Live(LiveRequest {
         plan: word(matches, "plan"),
         line,
         hours: hours_of(matches),
         journal: matches.get_str("journal"),
         office,
+        origin,
         turns: matches.get_one::<u32>("turns"),
         is_quiet: matches.get_flag("quiet"),
     }))

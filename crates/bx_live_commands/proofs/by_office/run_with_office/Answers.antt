@@ -8,7 +8,7 @@ returns-clause-ran g c =
     let w = sale_ok c.in_ok-done.was c.run_market-done.ensures in
     sells_by g.W.Wire.did g.D.Disk.holds g.D.Disk.may_leave g.D.Disk.moment g.D.Disk.left_since g.D.Disk.has_failed c.args.wire c.args.schedule c.args.resumed.log c.args.premises.channels c.args.turns c.args.resumed.exchange c.run_market-done.new.exchange c.new-telling.result.world c.new-world.result c.run_market-done.new.world.world.world.world c.new-telling.ensures
     (search rules) c.new-world.ensures.schedule c.new-world.ensures.kept (search rules) (search rules)
-    (record { run = record { deals = w.run.deals; done = w.run.done; goes = w.run.goes }; through = w.through; held = w.held; out = w.out })
+    (record { run = record { deals = w.run.deals; done = w.run.done.0; goes = w.run.goes }; through = w.through; held = w.held; out = w.out })
 
 pub returns-in_err-done-clause-failed : goal.returns-in_err-done-clause-failed
 returns-in_err-done-clause-failed g c =
@@ -18,7 +18,7 @@ returns-in_err-done-clause-failed g c =
     (selling_kept g.W.Wire.did g.D.Disk.holds g.D.Disk.may_leave g.D.Disk.moment g.D.Disk.left_since g.D.Disk.has_failed c.args.wire c.args.schedule c.args.resumed.log c.args.premises.channels c.args.turns c.args.resumed.exchange c.args.resumed.log.disk refl
     (stops_by g.W.Wire.did g.D.Disk.holds g.D.Disk.may_leave g.D.Disk.moment g.D.Disk.left_since g.D.Disk.has_failed c.args.wire c.args.schedule c.args.resumed.log c.args.premises.channels c.args.turns c.args.resumed.exchange c.new-telling.result.world c.new-world.result c.run_market-done.new.world.world.world.world c.new-telling.ensures
     (search rules) c.new-world.ensures.schedule c.new-world.ensures.kept
-    (record { over = b.over; run = record { deals = b.run.deals; done = b.run.done; goes = b.run.goes }; through = b.through; held = b.held })))
+    (record { over = b.over; run = record { deals = b.run.deals; done = b.run.done.0; goes = b.run.goes }; through = b.through; held = b.held })))
 
 pub returns-in_err-done-clause-stopped : goal.returns-in_err-done-clause-stopped
 returns-in_err-done-clause-stopped g c =
@@ -27,4 +27,4 @@ returns-in_err-done-clause-stopped g c =
     rw p.1
     (stops_by g.W.Wire.did g.D.Disk.holds g.D.Disk.may_leave g.D.Disk.moment g.D.Disk.left_since g.D.Disk.has_failed c.args.wire c.args.schedule c.args.resumed.log c.args.premises.channels c.args.turns c.args.resumed.exchange c.new-telling.result.world c.new-world.result c.run_market-done.new.world.world.world.world c.new-telling.ensures
     (search rules) c.new-world.ensures.schedule c.new-world.ensures.kept
-    (record { over = b.over; run = record { deals = b.run.deals; done = b.run.done; goes = b.run.goes }; through = b.through; held = b.held }))
+    (record { over = b.over; run = record { deals = b.run.deals; done = b.run.done.0; goes = b.run.goes }; through = b.through; held = b.held }))
