@@ -3,7 +3,7 @@ use Rattle.std.proofs.Common.{codes, ◌≡◌, ℕ, ◌+◌, ◌<◌, ◌≤◌
 use Rattle.std.specs.List.{flat_map}
 use Rattle.std.specs.Option.{option_map}
 use Rattle.std.proofs.lemmas.List.{map_push, flat_map_more}
-use Rattle.bx_events.specs.Events.{Tick, Receive, LiveEvent, OnLink, WithoutLink, Sold, HeardByRulesTwo}
+use Rattle.bx_events.specs.Events.{Tick, Receive, LiveEvent, OnLink, WithoutLink, Amended, HeardByRulesTwo}
 use Rattle.bx_journal.specs.Hex.{hex_of}
 use Rattle.bx_journal.proofs.Digits.{hex_length}
 use Rattle.bx_journal.specs.declared.event.LoggedEvent.{LoggedEvent}
@@ -11,7 +11,9 @@ use Rattle.bx_journal.specs.Held.{Held}
 use Rattle.bx_journal.specs.declared.version.Version.{Version}
 use Rattle.bx_journal.specs.Events.{IsEventIn, logged_event}
 use Rattle.bx_journal.specs.Lines.{line_ended}
-use Rattle.bx_journal.specs.Text.{line_of}
+use Rattle.bx_events.specs.declared.amendment.Amendment.{Amendment}
+use Rattle.bx_events.specs.declared.amendment.Amendment.TheVariants.{Sold, Cancelled, Changed}
+use Rattle.bx_journal.specs.Text.{amendment_word, line_of}
 use Rattle.bx_journal.specs.Reading.{event_on}
 use Rattle.bx_journal.specs.Taking.{Takes, TakesLine, TakesEvents, EventsEnd, EventsStop, EventsBreak, EndsInLine, Stops, lines_text}
 use Rattle.bx_journal.proofs.Takings.{takes_then}
@@ -78,12 +80,17 @@ module _ {F : Type 0} (followed : F → List LiveEvent → F → Type 0) (on : (
     number = so_far.number;
   }
 
+word_short : (kind : Amendment) → length (amendment_word kind) ≤ 10
+word_short Sold = omega arith
+word_short Cancelled = omega arith
+word_short Changed = omega arith
+
 -- a line of more octets than any that is right has no event
 short : (v : Version) (e : LiveEvent) → IsEventIn v e → length (line_of e) ≤ 526
 short v (OnLink Tick) is = omega arith
 short v (OnLink (Receive octets)) is = omega (arith, length-append (codes "heard ") (hex_of 65 octets), hex_length 65 octets, is.1.1)
 short v (WithoutLink rules) is = omega arith
-short v (Sold booking) is = omega (arith, length-append (codes "sold ") booking, is.1.0)
+short v (Amended kind line) is = omega (arith, length-append (amendment_word kind) line, word_short kind, is.1.1)
 short v (HeardByRulesTwo octets) is = omega (arith, length-append (codes "heard ") (hex_of 65 octets), hex_length 65 octets, is.1.1)
 
 none_of : (v : Version) (line : List ℕ) (o : Option LiveEvent) → event_on v line ≡ o → 526 < length line → o ≡ None

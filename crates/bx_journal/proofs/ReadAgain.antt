@@ -1,8 +1,10 @@
 -- The text of events is read as these events, whatever prefix of a line stands after it.
+use Rattle.bx_events.specs.declared.amendment.Amendment.{Amendment}
+use Rattle.bx_events.specs.declared.amendment.Amendment.TheVariants.{Sold, Cancelled, Changed}
 use Rattle.bx_events.specs.declared.rules.Rules.TheVariants.{Two, Three}
 use Rattle.std.proofs.Common.{◌≡◌, ◌==◌, ◌≤◌, nat_le, ℕ, ◌+◌, Bool, true, false, cond, arith, Option, drop, List, [], ◌∷◌, ◌++◌, length, map, Some, Result, Ok, refl, ap, sym, ◌∙◌, subst}
 use Rattle.std.specs.List.{flat_map, list_all}
-use Rattle.bx_events.specs.Events.{Tick, Receive, LiveEvent, OnLink, WithoutLink, Sold, HeardByRulesTwo}
+use Rattle.bx_events.specs.Events.{Tick, Receive, LiveEvent, OnLink, WithoutLink, Amended, HeardByRulesTwo}
 use Rattle.bx_journal.specs.declared.version.Version.{Version}
 use Rattle.bx_journal.specs.declared.version.Version.TheVariants.{Dated}
 use Rattle.bx_journal.specs.Versions.{has_day, head_size, IsReadWhere}
@@ -11,7 +13,7 @@ use Rattle.bx_journal.specs.Lines.{whole_lines, whole_text, line_ended}
 use Rattle.bx_journal.specs.Inside.{HasNoLf, HaveNoLf}
 use Rattle.bx_journal.specs.Heads.{IsJournalDay, IsWanted, wanted_of}
 use Rattle.bx_journal.specs.declared.head.JournalDay.{JournalDay}
-use Rattle.bx_journal.specs.Text.{line_of, version_line, plan_line, day_line, lines_in, journal_text}
+use Rattle.bx_journal.specs.Text.{amendment_word, line_of, version_line, plan_line, day_line, lines_in, journal_text}
 use Rattle.bx_journal.specs.Reading.{event_on, events_on, events_after, journal_events, recovered, journal_in, with_whole, IsJournalText}
 use Rattle.bx_journal.specs.declared.fault.JournalFault.{JournalFault}
 use Rattle.bx_journal.specs.declared.head.Head.{Head}
@@ -31,11 +33,17 @@ printable_without_lf : (octets : List ℕ) → list_all is_printable octets ≡ 
 printable_without_lf [] h = tt
 printable_without_lf (octet ∷ octets) h = let p = and_parts (is_printable octet) (list_all is_printable octets) h in (printable_clean octet p.0, printable_without_lf octets p.1)
 
+-- a line that amends the plan, by what it has behind its word
+amended_without_lf : (kind : Amendment) (line : List ℕ) → HasNoLf line → HasNoLf (amendment_word kind ++ line)
+amended_without_lf Sold line none = (refl, (refl, (refl, (refl, (refl, none)))))
+amended_without_lf Cancelled line none = (refl, (refl, (refl, (refl, (refl, (refl, (refl, (refl, (refl, (refl, none))))))))))
+amended_without_lf Changed line none = (refl, (refl, (refl, (refl, (refl, (refl, (refl, (refl, none))))))))
+
 pub line_without_lf : (v : Version) (e : LiveEvent) → IsEventIn v e → HasNoLf (line_of e)
 line_without_lf v (OnLink Tick) is = (refl, (refl, (refl, (refl, tt))))
 line_without_lf v (OnLink (Receive octets)) is = (refl, (refl, (refl, (refl, (refl, (refl, hex_without_lf 65 (omega arith) octets))))))
 line_without_lf v (WithoutLink rules) is = (refl, (refl, (refl, (refl, tt))))
-line_without_lf v (Sold booking) is = (refl, (refl, (refl, (refl, (refl, printable_without_lf booking is.1.1)))))
+line_without_lf v (Amended kind line) is = amended_without_lf kind line (printable_without_lf line is.1.1.1)
 line_without_lf v (HeardByRulesTwo octets) is = (refl, (refl, (refl, (refl, (refl, (refl, hex_without_lf 65 (omega arith) octets))))))
 
 pub event_lines : (v : Version) (es : List LiveEvent) → AreEventsIn v es → HaveNoLf (map line_of es)
@@ -58,7 +66,9 @@ event_read v (OnLink (Receive octets)) is =
     rw (le-leb (length (hex_of 65 octets)) 520 (omega (arith, hex_length 65 octets, is.1.1)), octets_read 65 (omega arith) octets is.0, is.1.0) refl
 event_read v (WithoutLink Two) is = rw (is.1) refl
 event_read v (WithoutLink Three) is = rw (is.1) refl
-event_read v (Sold booking) is = rw (le-leb (length booking) 200 is.1.0, is.1.1) refl
+event_read v (Amended Sold line) is = rw (le-leb (length line) 200 is.1.1.0, is.1.1.1) refl
+event_read v (Amended Cancelled line) is = rw (is.1.0, le-leb (length line) 200 is.1.1.0, is.1.1.1) refl
+event_read v (Amended Changed line) is = rw (is.1.0, le-leb (length line) 200 is.1.1.0, is.1.1.1) refl
 event_read v (HeardByRulesTwo octets) is =
     rw (le-leb (length (hex_of 65 octets)) 520 (omega (arith, hex_length 65 octets, is.1.1)), octets_read 65 (omega arith) octets is.0, is.1.0) refl
 

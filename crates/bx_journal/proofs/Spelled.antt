@@ -1,4 +1,6 @@
 -- What is read is spelled so.
+use Rattle.bx_events.specs.declared.amendment.Amendment.{Amendment}
+use Rattle.bx_events.specs.declared.amendment.Amendment.TheVariants.{Sold, Cancelled, Changed}
 use Rattle.bx_events.specs.declared.rules.Rules.TheVariants.{Two, Three}
 use Rattle.std.proofs.Common.{codes, ◌≡◌, ℕ, zero, suc, ◌+◌, ◌-◌, ◌*◌, ◌/◌, ◌%◌, ◌≤◌, ◌<◌, ◌==◌, ◌&&◌, Bool, true, false, cond, leb, nat_le, List, [], ◌∷◌, ◌++◌, length, take, drop, get_or, map, Option, Some, None, Result, Ok, Err, refl, ap, sym, ◌∙◌, subst, arith, length-append, take-append-drop}
 use Rattle.std.specs.Str.{bytes_eq}
@@ -7,17 +9,17 @@ use Rattle.std.specs.Option.{option_map}
 use Rattle.std.proofs.lemmas.List.{take_at, drop_at}
 use Rattle.std.proofs.lemmas.Bool.{eqb-true, leb-true, lt-ltb, le-ltb, and_parts}
 use Rattle.std.proofs.lemmas.Slice.Eq.{bytes_eq-Decides}
-use Rattle.bx_events.specs.Events.{Tick, Receive, LiveEvent, OnLink, WithoutLink, Sold, HeardByRulesTwo}
+use Rattle.bx_events.specs.Events.{Tick, Receive, LiveEvent, OnLink, WithoutLink, Amended, HeardByRulesTwo}
 use Rattle.bx_journal.specs.declared.fault.JournalFault.{JournalFault}
 use Rattle.bx_journal.specs.declared.version.Version.{Version}
 use Rattle.bx_journal.specs.declared.version.Version.TheVariants.{Undated, Older, Dated}
 use Rattle.bx_journal.specs.Versions.{has_day, head_size, is_older, rules_of, IsReadWhere}
-use Rattle.bx_journal.specs.Events.{AreOctets, IsEventIn, FitsVersion, AreEvents, AreEventsIn, is_printable}
+use Rattle.bx_journal.specs.Events.{AreOctets, HasAmendments, IsEventIn, FitsVersion, AreEvents, AreEventsIn, is_printable}
 use Rattle.bx_journal.specs.Hex.{hex_digit, hex_of, hex_value, octet_of_digits, octets_of_digits, after_octet}
 use Rattle.bx_journal.specs.Lines.{whole_lines, whole_text, line_ended, onto}
 use Rattle.bx_journal.specs.Inside.{HasNoLf, HaveNoLf, lines_of}
-use Rattle.bx_journal.specs.Text.{line_of, version_line, plan_line, day_line, day_lines, lines_in, journal_text}
-use Rattle.bx_journal.specs.Reading.{event_on, heard_on, heard_event, sold_on, events_on, with_event, head_on, events_after, journal_events, recovered, Recovery, journal_in, with_whole, IsJournalText}
+use Rattle.bx_journal.specs.Text.{amendment_word, line_of, version_line, plan_line, day_line, day_lines, lines_in, journal_text}
+use Rattle.bx_journal.specs.Reading.{event_on, heard_on, heard_event, amended_on, begins_as, behind_word, amendment_on, events_on, with_event, head_on, events_after, journal_events, recovered, Recovery, journal_in, with_whole, IsJournalText}
 use Rattle.bx_journal.specs.Heads.{IsJournalDay, IsWanted, wanted_of}
 use Rattle.bx_journal.specs.declared.head.Head.{Head}
 use Rattle.bx_journal.specs.declared.head.JournalDay.{JournalDay}
@@ -122,29 +124,42 @@ limited : (v : Version) (few : Bool) (line : List ℕ) (e : LiveEvent) → leb (
 limited v true line e few word some = heard v line (octets_of_digits 65 (drop 6 line)) e (leb-true _ _ few) refl word some
 limited v false line e few word some = absurd cc
 
-sold : (v : Version) (fine : Bool) (line : List ℕ) (e : LiveEvent) → (nat_le (length (drop 5 line)) 200 && list_all is_printable (drop 5 line)) ≡ fine → take 5 line ≡ codes "sold " → cond fine (Some (Sold (drop 5 line))) None ≡ Some e → IsLineOf v line e
-sold v true line e fine word some =
-    let p = and_parts (nat_le (length (drop 5 line)) 200) (list_all is_printable (drop 5 line)) fine in
-    subst (IsLineOf v line) (some_inj _ _ some) (record {
-      spelled = sym (take-append-drop 5 line) ∙ ap (λ (l : List ℕ). l ++ drop 5 line) word;
-      octets = (tt, (leb-true _ _ p.0, p.1));
-    })
-sold v false line e fine word some = absurd cc
+fine_amended : (v : Version) (kind : Amendment) (line text : List ℕ) (e : LiveEvent) (fine : Bool) → (nat_le (length text) 200 && list_all is_printable text) ≡ fine → HasAmendments v kind → line ≡ amendment_word kind ++ text → cond fine (Some (Amended kind text)) None ≡ Some e → IsLineOf v line e
+fine_amended v kind line text e true fine has is some =
+    let p = and_parts (nat_le (length text) 200) (list_all is_printable text) fine in
+    subst (IsLineOf v line) (some_inj _ _ some) (record { spelled = is; octets = (tt, (has, (leb-true _ _ p.0, p.1))) })
+fine_amended v kind line text e false fine has is some = absurd cc
+
+-- a line that begins with the word of a kind that a journal of this version has
+amended : (v : Version) (kind : Amendment) (line : List ℕ) (e : LiveEvent) → HasAmendments v kind → begins_as kind line ≡ true → amended_on kind (behind_word kind line) ≡ Some e → IsLineOf v line e
+amended v kind line e has begins some =
+    let n = length (amendment_word kind) in
+    let word : take n line ≡ amendment_word kind = (bytes_eq-Decides (take n line) (amendment_word kind)).0 begins in
+    let spelled : line ≡ amendment_word kind ++ behind_word kind line = sym (take-append-drop n line) ∙ ap (λ (l : List ℕ). l ++ behind_word kind line) word in
+    fine_amended v kind line (behind_word kind line) e (nat_le (length (behind_word kind line)) 200 && list_all is_printable (behind_word kind line)) refl has spelled some
+
+-- the same by the first of these words
+amendment : (v : Version) (s o g h : Bool) (line : List ℕ) (e : LiveEvent) → begins_as Sold line ≡ s → is_older v ≡ o → begins_as Cancelled line ≡ g → begins_as Changed line ≡ h
+    → cond s (amended_on Sold (behind_word Sold line)) (cond o None (cond g (amended_on Cancelled (behind_word Cancelled line)) (cond h (amended_on Changed (behind_word Changed line)) None))) ≡ Some e → IsLineOf v line e
+amendment v true o g h line e sells older gives changes some = amended v Sold line e tt sells some
+amendment v false true g h line e sells older gives changes some = absurd cc
+amendment v false false true h line e sells newer gives changes some = amended v Cancelled line e newer gives some
+amendment v false false false true line e sells newer gives changes some = amended v Changed line e newer changes some
+amendment v false false false false line e sells newer gives changes some = absurd cc
 
 down_fits : (t : Bool) (v : Version) → is_older v ≡ t → FitsVersion v (WithoutLink (cond t Two Three))
 down_fits true v older = older
 down_fits false v newer = newer
 
-forms : (v : Version) (t d h s : Bool) (line : List ℕ) (e : LiveEvent) → bytes_eq line (codes "tick") ≡ t → bytes_eq line (codes "down") ≡ d → bytes_eq (take 6 line) (codes "heard ") ≡ h → bytes_eq (take 5 line) (codes "sold ") ≡ s
-    → cond t (Some (OnLink Tick)) (cond d (Some (WithoutLink (rules_of v))) (cond h (heard_on v (drop 6 line)) (cond s (sold_on (drop 5 line)) None))) ≡ Some e → IsLineOf v line e
-forms v true d h s line e is down word sells some = subst (IsLineOf v line) (some_inj _ _ some) (record { spelled = (bytes_eq-Decides line (codes "tick")).0 is; octets = (tt, tt) })
-forms v false true h s line e is down word sells some = subst (IsLineOf v line) (some_inj _ _ some) (record { spelled = (bytes_eq-Decides line (codes "down")).0 down; octets = (tt, down_fits (is_older v) v refl) })
-forms v false false true s line e is down word sells some = limited v (leb (length (drop 6 line)) 520) line e refl ((bytes_eq-Decides (take 6 line) (codes "heard ")).0 word) some
-forms v false false false true line e is down word sells some = sold v (nat_le (length (drop 5 line)) 200 && list_all is_printable (drop 5 line)) line e refl ((bytes_eq-Decides (take 5 line) (codes "sold ")).0 sells) some
-forms v false false false false line e is down word sells some = absurd cc
+forms : (v : Version) (t d h : Bool) (line : List ℕ) (e : LiveEvent) → bytes_eq line (codes "tick") ≡ t → bytes_eq line (codes "down") ≡ d → bytes_eq (take 6 line) (codes "heard ") ≡ h
+    → cond t (Some (OnLink Tick)) (cond d (Some (WithoutLink (rules_of v))) (cond h (heard_on v (drop 6 line)) (amendment_on v line))) ≡ Some e → IsLineOf v line e
+forms v true d h line e is down word some = subst (IsLineOf v line) (some_inj _ _ some) (record { spelled = (bytes_eq-Decides line (codes "tick")).0 is; octets = (tt, tt) })
+forms v false true h line e is down word some = subst (IsLineOf v line) (some_inj _ _ some) (record { spelled = (bytes_eq-Decides line (codes "down")).0 down; octets = (tt, down_fits (is_older v) v refl) })
+forms v false false true line e is down word some = limited v (leb (length (drop 6 line)) 520) line e refl ((bytes_eq-Decides (take 6 line) (codes "heard ")).0 word) some
+forms v false false false line e is down word some = amendment v (begins_as Sold line) (is_older v) (begins_as Cancelled line) (begins_as Changed line) line e refl refl refl refl some
 
 pub line_spelled : (v : Version) (line : List ℕ) (e : LiveEvent) → event_on v line ≡ Some e → IsLineOf v line e
-line_spelled v line e some = forms v (bytes_eq line (codes "tick")) (bytes_eq line (codes "down")) (bytes_eq (take 6 line) (codes "heard ")) (bytes_eq (take 5 line) (codes "sold ")) line e refl refl refl refl some
+line_spelled v line e some = forms v (bytes_eq line (codes "tick")) (bytes_eq line (codes "down")) (bytes_eq (take 6 line) (codes "heard ")) line e refl refl refl some
 
 abbrev the_ok : List LiveEvent → Result (List LiveEvent) JournalFault
 the_ok x = Ok x

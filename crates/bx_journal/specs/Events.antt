@@ -1,7 +1,9 @@
 -- What may be logged.
 use Rattle.std.specs.Prelude.{◌≡◌, ℕ, ◌≤◌, ◌<◌, ◌&&◌, nat_le, Bool, true, false, List, [], ◌∷◌, length, slice_index, slice_index_or}
 use Rattle.std.specs.List.{list_all}
-use Rattle.bx_events.specs.Events.{Tick, Receive, LiveEvent, OnLink, WithoutLink, Sold, HeardByRulesTwo}
+use Rattle.bx_events.specs.Events.{Tick, Receive, LiveEvent, OnLink, WithoutLink, Amended, HeardByRulesTwo}
+use Rattle.bx_events.specs.declared.amendment.Amendment.{Amendment}
+use Rattle.bx_events.specs.declared.amendment.Amendment.TheVariants.{Sold, Cancelled, Changed}
 use Rattle.bx_events.specs.declared.rules.Rules.TheVariants.{Two, Three}
 use Rattle.bx_events.specs.Told.{live_event_of}
 use Rattle.bx_events.specs.declared.event.LiveEvent.TheVariants as rust
@@ -18,14 +20,17 @@ use Rattle.bx_journal.specs.Versions.{is_older}
 abbrev pub is_printable : ℕ → Bool
 is_printable octet = nat_le 32 octet && nat_le octet 126
 
--- what came is no longer than the longest message, and what is sold is printable, and no longer than its line may be; an exchange of the
--- older rules goes through nothing any more
+-- what amends the plan is printable, and no longer than its line may be
+abbrev pub IsAmendedLine : List ℕ → Type 0
+IsAmendedLine line = (length line ≤ 200) × (list_all is_printable line ≡ true)
+
+-- what came is no longer than the longest message; an exchange of the older rules goes through nothing any more
 abbrev pub IsLoggable : LiveEvent → Type 0
 IsLoggable (OnLink Tick) = Unit {0}
 IsLoggable (OnLink (Receive octets)) = length octets ≤ MAX_MESSAGE
 IsLoggable (WithoutLink Two) = ⊥
 IsLoggable (WithoutLink Three) = Unit {0}
-IsLoggable (Sold booking) = (length booking ≤ 200) × (list_all is_printable booking ≡ true)
+IsLoggable (Amended kind line) = IsAmendedLine line
 IsLoggable (HeardByRulesTwo octets) = ⊥
 
 abbrev pub AreOctets : List ℕ → Type 0
@@ -35,8 +40,14 @@ abbrev pub HasOctets : LiveEvent → Type 0
 HasOctets (OnLink Tick) = Unit {0}
 HasOctets (OnLink (Receive octets)) = AreOctets octets
 HasOctets (WithoutLink rules) = Unit {0}
-HasOctets (Sold booking) = Unit {0}
+HasOctets (Amended kind line) = Unit {0}
 HasOctets (HeardByRulesTwo octets) = AreOctets octets
+
+-- a journal of this version has such amendments: by the older rules bookings were sold, and nothing else
+abbrev pub HasAmendments : Version → Amendment → Type 0
+HasAmendments version Sold = Unit {0}
+HasAmendments version Cancelled = is_older version ≡ false
+HasAmendments version Changed = is_older version ≡ false
 
 -- what a journal of this version may have: what came to an exchange of the older rules, and its seconds without a link, are in one by
 -- these, and in no other
@@ -45,7 +56,7 @@ FitsVersion version (OnLink Tick) = Unit {0}
 FitsVersion version (OnLink (Receive octets)) = (is_older version ≡ false) × (length octets ≤ MAX_MESSAGE)
 FitsVersion version (WithoutLink Two) = is_older version ≡ true
 FitsVersion version (WithoutLink Three) = is_older version ≡ false
-FitsVersion version (Sold booking) = (length booking ≤ 200) × (list_all is_printable booking ≡ true)
+FitsVersion version (Amended kind line) = HasAmendments version kind × IsAmendedLine line
 FitsVersion version (HeardByRulesTwo octets) = (is_older version ≡ true) × (length octets ≤ MAX_MESSAGE)
 
 -- an event that has a line in a journal of this version: what came are octets, and no more than a message has
@@ -69,5 +80,5 @@ abbrev pub logged_event : LoggedEvent → LiveEvent
 logged_event logged.Tick = OnLink Tick
 logged_event (logged.Heard octets) = OnLink (Receive octets.items)
 logged_event (logged.Down rules) = WithoutLink rules
-logged_event (logged.Sold booking) = Sold booking.items
+logged_event (logged.Amended kind line) = Amended kind line.items
 logged_event (logged.HeardByRulesTwo octets) = HeardByRulesTwo octets.items

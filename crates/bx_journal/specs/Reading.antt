@@ -3,7 +3,9 @@ use Rattle.std.specs.Prelude.{◌≡◌, ℕ, ◌+◌, ◌==◌, ◌&&◌, nat_l
 use Rattle.std.specs.Str.{bytes_eq}
 use Rattle.std.specs.List.{list_all}
 use Rattle.std.specs.Option.{option_map}
-use Rattle.bx_events.specs.Events.{Tick, Receive, LiveEvent, OnLink, WithoutLink, Sold, HeardByRulesTwo}
+use Rattle.bx_events.specs.Events.{Tick, Receive, LiveEvent, OnLink, WithoutLink, Amended, HeardByRulesTwo}
+use Rattle.bx_events.specs.declared.amendment.Amendment.{Amendment}
+use Rattle.bx_events.specs.declared.amendment.Amendment.TheVariants.{Sold, Cancelled, Changed}
 use Rattle.bx_journal.specs.declared.fault.JournalFault.{JournalFault}
 use Rattle.bx_journal.specs.declared.fault.JournalFault.TheVariants.{BadLine, OtherPlan, OtherDay, OtherRules, NotBegun}
 use Rattle.bx_journal.specs.declared.head.Head.{Head}
@@ -19,7 +21,7 @@ use Rattle.bx_journal.specs.Heads.{IsJournalDay, IsWanted}
 use Rattle.bx_journal.specs.Hex.{octets_of_digits, is_hex}
 use Rattle.bx_journal.specs.Lines.{whole_lines, whole_text}
 use Rattle.bx_journal.specs.Numbers.{number_on, space_at}
-use Rattle.bx_journal.specs.Text.{plan_line, text_in}
+use Rattle.bx_journal.specs.Text.{amendment_word, plan_line, text_in}
 
 -- what came, in a journal of this version
 abbrev pub heard_event : Version → List ℕ → LiveEvent
@@ -29,12 +31,25 @@ heard_event version octets = if is_older version then HeardByRulesTwo octets els
 abbrev pub heard_on : Version → List ℕ → Option LiveEvent
 heard_on version digits = if nat_le (length digits) 520 then option_map (heard_event version) (octets_of_digits 65 digits) else None
 
--- what was sold
-abbrev pub sold_on : List ℕ → Option LiveEvent
-sold_on booking = if nat_le (length booking) 200 && list_all is_printable booking then Some (Sold booking) else None
+-- what amends the plan so, by what its line has behind the word
+abbrev pub amended_on : Amendment → List ℕ → Option LiveEvent
+amended_on kind text = if nat_le (length text) 200 && list_all is_printable text then Some (Amended kind text) else None
 
-abbrev pub sold_by : List ℕ → Option LiveEvent
-sold_by line = if bytes_eq (take 5 line) (codes "sold ") then sold_on (drop 5 line) else None
+-- whether a line begins with the word of such amendments, and what it has behind it
+abbrev pub begins_as : Amendment → List ℕ → Bool
+begins_as kind line = bytes_eq (take (length (amendment_word kind)) line) (amendment_word kind)
+
+abbrev pub behind_word : Amendment → List ℕ → List ℕ
+behind_word kind line = drop (length (amendment_word kind)) line
+
+-- what amends the plan in a journal of this version, by its line: by the older rules bookings were sold, and nothing else
+abbrev pub amendment_on : Version → List ℕ → Option LiveEvent
+amendment_on version line =
+    if begins_as Sold line then amended_on Sold (behind_word Sold line)
+    else if is_older version then None
+    else if begins_as Cancelled line then amended_on Cancelled (behind_word Cancelled line)
+    else if begins_as Changed line then amended_on Changed (behind_word Changed line)
+    else None
 
 -- the event of a line in a journal of this version
 abbrev pub event_on : Version → List ℕ → Option LiveEvent
@@ -42,7 +57,7 @@ event_on version line =
     if bytes_eq line (codes "tick") then Some (OnLink Tick)
     else if bytes_eq line (codes "down") then Some (WithoutLink (rules_of version))
     else if bytes_eq (take 6 line) (codes "heard ") then heard_on version (drop 6 line)
-    else sold_by line
+    else amendment_on version line
 
 -- an event, and those of the lines after it; the first fault is answered
 abbrev pub with_event : ℕ → Option LiveEvent → Result (List LiveEvent) JournalFault → Result (List LiveEvent) JournalFault

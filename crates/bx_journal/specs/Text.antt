@@ -1,7 +1,9 @@
 -- The text of a journal: its head, and events.
 use Rattle.std.specs.Prelude.{ℕ, List, [], ◌∷◌, ◌++◌, map, codes, decimal, if◌then◌else◌}
 use Rattle.std.specs.List.{flat_map}
-use Rattle.bx_events.specs.Events.{Tick, Receive, LiveEvent, OnLink, WithoutLink, Sold, HeardByRulesTwo}
+use Rattle.bx_events.specs.Events.{Tick, Receive, LiveEvent, OnLink, WithoutLink, Amended, HeardByRulesTwo}
+use Rattle.bx_events.specs.declared.amendment.Amendment.{Amendment}
+use Rattle.bx_events.specs.declared.amendment.Amendment.TheVariants.{Sold, Cancelled, Changed}
 use Rattle.bx_journal.specs.Hex.{hex_of}
 use Rattle.bx_journal.specs.Lines.{line_ended}
 use Rattle.bx_journal.specs.declared.head.Head.{Head}
@@ -12,12 +14,18 @@ use Rattle.bx_journal.specs.declared.version.Version.{Version}
 use Rattle.bx_journal.specs.declared.version.Version.TheVariants.{Undated, Older, Dated}
 use Rattle.bx_journal.specs.Versions.{has_day}
 
+-- the word of a line that amends the plan, with the space behind it
+abbrev pub amendment_word : Amendment → List ℕ
+amendment_word Sold = codes "sold "
+amendment_word Cancelled = codes "cancelled "
+amendment_word Changed = codes "changed "
+
 -- the line of an event, without its LF
 abbrev pub line_of : LiveEvent → List ℕ
 line_of (OnLink Tick) = codes "tick"
 line_of (OnLink (Receive octets)) = codes "heard " ++ hex_of 65 octets
 line_of (WithoutLink rules) = codes "down"
-line_of (Sold booking) = codes "sold " ++ booking
+line_of (Amended kind line) = amendment_word kind ++ line
 line_of (HeardByRulesTwo octets) = codes "heard " ++ hex_of 65 octets
 
 -- the line that names the form, and the rules by which the events are replayed

@@ -3,11 +3,11 @@
 ghost use Rattle.std.specs.Prelude.{◌≡◌};
 
 use arrayvec::ArrayVec;
-use bx_events::{Event, LiveEvent, Rules};
+use bx_events::{Amendment, Event, LiveEvent, Rules};
 use bx_q931::Octets;
 
-/// The line of a booking that is sold: printable ASCII.
-pub type SoldLine = ArrayVec<u8, 200>;
+/// What a line that amends the plan has behind its word: printable ASCII.
+pub type AmendedLine = ArrayVec<u8, 200>;
 
 /// An event of a live day, with the octets that came, to an exchange of these rules or of the rules 2, as with a second without a link.
 #[derive(Drop)]
@@ -15,7 +15,7 @@ pub enum LoggedEvent {
     Tick,
     Heard(Octets),
     Down(Rules),
-    Sold(SoldLine),
+    Amended(Amendment, AmendedLine),
     HeardByRulesTwo(Octets),
 }
 
@@ -31,7 +31,7 @@ impl LoggedEvent {
             LoggedEvent::Tick => LiveEvent::OnLink(Event::Tick),
             LoggedEvent::Heard(octets) => LiveEvent::OnLink(Event::Receive(octets)),
             LoggedEvent::Down(rules) => LiveEvent::WithoutLink(*rules),
-            LoggedEvent::Sold(booking) => LiveEvent::Sold(booking),
+            LoggedEvent::Amended(kind, line) => LiveEvent::Amended(*kind, line),
             LoggedEvent::HeardByRulesTwo(octets) => LiveEvent::HeardByRulesTwo(octets),
         }
     }

@@ -4,11 +4,13 @@ ghost use Rattle.std.specs.Prelude.{◌≡◌};
 ghost use Rattle.std.specs.List.{list_all};
 ghost use Rattle.std.specs.Option.{option_map};
 ghost use Rattle.bx_journal.specs.Events.{is_printable, logged_event};
-ghost use Rattle.bx_journal.specs.Reading.{event_on, heard_event, heard_on, sold_by, sold_on};
+ghost use Rattle.bx_journal.specs.Reading.{amended_on, amendment_on, event_on, heard_event, heard_on};
 
-use crate::event::{LoggedEvent, SoldLine};
+use crate::event::{AmendedLine, LoggedEvent};
 use crate::hex::octets_in;
 use crate::version::Version;
+use crate::written::amendment_word;
+use bx_events::Amendment;
 use bx_q931::Octets;
 
 /// What came, in a journal of this version.
@@ -44,26 +46,32 @@ pub fn are_printable(octets: &[u8]) -> bool
     true
 }
 
-/// What was sold.
-fn sold_on(booking: &[u8]) -> Option<LoggedEvent>
-    ensures { option_map logged_event result ≡ sold_on booking.now }
+/// What amends the plan so, by what its line has behind the word.
+fn amended_on(kind: Amendment, text: &[u8]) -> Option<LoggedEvent>
+    ensures { option_map logged_event result ≡ amended_on kind text.now }
 {
-    let mut line = SoldLine::new();
-    if booking.len() > 200 || !are_printable(booking) {
+    let mut line = AmendedLine::new();
+    if text.len() > 200 || !are_printable(text) {
         return None;
     }
-    match line.try_extend_from_slice(booking) {
-        Ok(()) => Some(LoggedEvent::Sold(line)),
+    match line.try_extend_from_slice(text) {
+        Ok(()) => Some(LoggedEvent::Amended(kind, line)),
         Err(_) => None,
     }
 }
 
-/// What was sold, by its line.
-fn sold_by(line: &[u8]) -> Option<LoggedEvent>
-    ensures { option_map logged_event result ≡ sold_by line.now }
+/// What amends the plan in a journal of this version, by its line: by the older rules bookings were sold, and nothing else.
+fn amendment_on(version: Version, line: &[u8]) -> Option<LoggedEvent>
+    ensures { option_map logged_event result ≡ amendment_on version line.now }
 {
-    if line.len() >= 5 && &line[..5] == b"sold ".as_slice() {
-        sold_on(&line[5..])
+    if let Some(text) = line.strip_prefix(amendment_word(Amendment::Sold)) {
+        amended_on(Amendment::Sold, text)
+    } else if version.is_older() {
+        None
+    } else if let Some(text) = line.strip_prefix(amendment_word(Amendment::Cancelled)) {
+        amended_on(Amendment::Cancelled, text)
+    } else if let Some(text) = line.strip_prefix(amendment_word(Amendment::Changed)) {
+        amended_on(Amendment::Changed, text)
     } else {
         None
     }
@@ -80,6 +88,6 @@ pub(crate) fn event_on(version: Version, line: &[u8]) -> Option<LoggedEvent>
     } else if line.len() >= 6 && &line[..6] == b"heard ".as_slice() {
         heard_on(version, &line[6..])
     } else {
-        sold_by(line)
+        amendment_on(version, line)
     }
 }

@@ -1,4 +1,4 @@
-//! Numbers in the head of a journal.
+//! Numbers in the lines of a journal.
 
 ghost use Rattle.std.specs.Prelude.{◌≡◌, ◌≤◌, length};
 ghost use Rattle.bx_journal.specs.Numbers.{number_on, space_at};
@@ -7,7 +7,7 @@ use bx_text::{all_digits, digits_value};
 use itoa::Buffer;
 
 /// The number of 32 bits that digits spell as it is written: with no leading zero.
-pub(crate) fn number_on(digits: &[u8]) -> Option<u32>
+pub fn number_on(digits: &[u8]) -> Option<u32>
     ensures { result ≡ number_on digits.now }
 {
     if !all_digits(digits) {
@@ -25,7 +25,7 @@ pub(crate) fn number_on(digits: &[u8]) -> Option<u32>
 }
 
 /// How many octets stand before the first space, or in all where there is none.
-pub(crate) fn space_at(octets: &[u8]) -> usize
+pub fn space_at(octets: &[u8]) -> usize
     ensures at { result ≡ space_at octets.now }
     ensures within { result ≤ length octets.now }
 {

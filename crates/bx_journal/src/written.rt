@@ -7,11 +7,11 @@ ghost use Rattle.bx_journal.specs.Lines.{line_ended};
 ghost use Rattle.bx_events.specs.Told.{live_event_of};
 ghost use Rattle.bx_journal.specs.Inside.{IsEvent};
 ghost use Rattle.bx_journal.specs.Events.{IsLoggable, AreOctets};
-ghost use Rattle.bx_journal.specs.Text.{line_of, plan_line, day_line, journal_text};
+ghost use Rattle.bx_journal.specs.Text.{amendment_word, line_of, plan_line, day_line, journal_text};
 
 use crate::head::{Head, JournalDay, RULES};
 use arrayvec::ArrayVec;
-use bx_events::{Event, LiveEvent};
+use bx_events::{Amendment, Event, LiveEvent};
 use itoa::Buffer;
 
 /// A line, or its prefix: none is longer than that of a message of 260 octets.
@@ -56,6 +56,18 @@ fn add_hex(line: &mut Line, ten: u8, octets: &[u8])
     }
 }
 
+/// The word of a line that amends the plan, with the space behind it.
+pub(crate) fn amendment_word(kind: Amendment) -> &'static [u8]
+    ensures word { result.now ≡ amendment_word kind }
+    ensures short { length result.now ≤ 10 }
+{
+    match kind {
+        Amendment::Sold => b"sold ",
+        Amendment::Cancelled => b"cancelled ",
+        Amendment::Changed => b"changed ",
+    }
+}
+
 /// The line of an event, with its LF.
 pub(crate) fn line_of(event: LiveEvent<'_>) -> Line
     requires { IsLoggable (live_event_of event) }
@@ -70,9 +82,9 @@ pub(crate) fn line_of(event: LiveEvent<'_>) -> Line
             add_hex(&mut line, b'A', octets);
         }
         LiveEvent::WithoutLink(_) => add(&mut line, b"down"),
-        LiveEvent::Sold(booking) => {
-            add(&mut line, b"sold ");
-            add(&mut line, booking);
+        LiveEvent::Amended(kind, text) => {
+            add(&mut line, amendment_word(kind));
+            add(&mut line, text);
         }
     }
     line.push(b'\n');

@@ -2,6 +2,8 @@
 #![tactic(auto)]
 
 #[cfg(test)]
+mod amended_lines;
+#[cfg(test)]
 mod file_disks;
 #[cfg(test)]
 mod heads;

@@ -59,6 +59,21 @@ fn kind_of(text: &[u8]) -> Kind {
     }
 }
 
+/// The letter of a line that amends the plan, and what it has behind its word.
+fn amendment(line: &[u8], is_older: bool) -> Option<(u8, &[u8])> {
+    if let Some(text) = line.strip_prefix(b"sold ".as_slice()) {
+        return Some((b's', text));
+    }
+    if is_older {
+        return None;
+    }
+    if let Some(text) = line.strip_prefix(b"cancelled ".as_slice()) {
+        return Some((b'x', text));
+    }
+    let text = line.strip_prefix(b"changed ".as_slice())?;
+    Some((b'c', text))
+}
+
 /// Writes down what a line says, and answers whether it is right.
 fn event_line(line: &[u8], is_older: bool, marks: &mut Marks) -> bool {
     if line == b"tick".as_slice() {
@@ -69,8 +84,8 @@ fn event_line(line: &[u8], is_older: bool, marks: &mut Marks) -> bool {
         mark(marks, if is_older { b"e" } else { b"d" });
         return true;
     }
-    if let Some(booking) = line.strip_prefix(b"sold ".as_slice()) {
-        return sold_line(booking, marks);
+    if let Some((letter, text)) = amendment(line, is_older) {
+        return amended_line(letter, text, marks);
     }
     let Some(digits) = line.strip_prefix(b"heard ".as_slice()) else {
         return false;
@@ -86,12 +101,12 @@ fn event_line(line: &[u8], is_older: bool, marks: &mut Marks) -> bool {
     }
 }
 
-/// The same of what stands after `sold `.
-fn sold_line(booking: &[u8], marks: &mut Marks) -> bool {
-    let right = booking.len() <= 200 && booking.iter().all(|octet| *octet >= 32 && *octet <= 126);
+/// The same of what stands behind the word of an amendment with this letter.
+fn amended_line(letter: u8, text: &[u8], marks: &mut Marks) -> bool {
+    let right = text.len() <= 200 && text.iter().all(|octet| *octet >= 32 && *octet <= 126);
     if right {
-        mark(marks, b"s");
-        mark(marks, booking);
+        mark(marks, &[letter]);
+        mark(marks, text);
         mark(marks, b".");
     }
     right

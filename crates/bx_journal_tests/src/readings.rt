@@ -2,7 +2,7 @@
 
 use crate::plain_reading::plain_reading;
 use crate::told::reading;
-use crate::worked::{HEAD, OLDER, PLAN, REHEARSED, TEXT, UNDATED};
+use crate::worked::{AMENDED, HEAD, OLDER, PLAN, REHEARSED, TEXT, UNDATED};
 use arrayvec::ArrayVec;
 use bx_cases::Failing;
 use bx_journal::{JournalFault, Wanted, plan_digest};
@@ -22,17 +22,28 @@ fn is_same_for(text: &[u8], wants_day: bool) -> bool {
 }
 
 /// Whether they do for both.
-fn is_same(text: &[u8]) -> bool {
+pub fn is_same(text: &[u8]) -> bool {
     is_same_for(text, true) && is_same_for(text, false)
 }
 
 /// Whether both say the same where one octet is another one.
-fn is_same_turned(at: usize, value: u8) -> bool {
-    let mut text = ArrayVec::<u8, 200>::new();
-    for (place, octet) in TEXT.iter().enumerate() {
-        let _ = text.try_push(if place == at { value } else { *octet });
+fn is_same_turned(text: &[u8], at: usize, value: u8) -> bool {
+    let mut turned = ArrayVec::<u8, 200>::new();
+    for (place, octet) in text.iter().enumerate() {
+        let _ = turned.try_push(if place == at { value } else { *octet });
     }
-    is_same(&text)
+    is_same(&turned)
+}
+
+/// Whether both say the same where any one octet of a text, from this place on, is any other one.
+fn is_same_beside(text: &[u8], from: usize) -> bool {
+    let mut same = true;
+    for at in from..text.len() {
+        for value in 0..=255u8 {
+            same = same && is_same_turned(text, at, value);
+        }
+    }
+    same
 }
 
 /// Whether they do of each prefix of a text.
@@ -61,18 +72,19 @@ fn each_prefix_is_read(rt: HostRuntime) -> Result<(), Fail> {
     assert!(rt; is_same_ahead(REHEARSED));
     assert!(rt; is_same_ahead(OLDER));
     assert!(rt; is_same_ahead(UNDATED));
+    assert!(rt; is_same_ahead(AMENDED));
     Ok(())
 }
 
 #[test]
 fn each_octet_may_be_another(rt: HostRuntime) -> Result<(), Fail> {
-    let mut same = true;
-    for at in 0..TEXT.len() {
-        for value in 0..=255u8 {
-            same = same && is_same_turned(at, value);
-        }
-    }
-    assert!(rt; same);
+    assert!(rt; is_same_beside(TEXT, 0));
+    Ok(())
+}
+
+#[test]
+fn each_octet_of_an_amendment_may_be_another(rt: HostRuntime) -> Result<(), Fail> {
+    assert!(rt; is_same_beside(AMENDED, 114));
     Ok(())
 }
 
@@ -133,10 +145,14 @@ fn no_line_is_longer_than_that_of_the_longest_message(rt: HostRuntime) -> Result
 }
 
 #[test]
-fn no_booking_is_longer_than_its_line(rt: HostRuntime) -> Result<(), Fail> {
+fn no_amendment_is_longer_than_its_line(rt: HostRuntime) -> Result<(), Fail> {
     let alloc = rt.alloc();
     let bad = Some(Err(JournalFault::BadLine(4)));
     assert!(rt; digits_after(alloc, b"sold ", 200, b"\n") == Some(Ok(320)));
     assert!(rt; digits_after(alloc, b"sold ", 201, b"\n") == bad);
+    assert!(rt; digits_after(alloc, b"cancelled ", 200, b"\n") == Some(Ok(325)));
+    assert!(rt; digits_after(alloc, b"cancelled ", 201, b"\n") == bad);
+    assert!(rt; digits_after(alloc, b"changed ", 200, b"\n") == Some(Ok(323)));
+    assert!(rt; digits_after(alloc, b"changed ", 201, b"\n") == bad);
     Ok(())
 }

@@ -3,11 +3,12 @@
 use arrayvec::ArrayVec;
 use bx_calls::Rules;
 use bx_devices::Watched;
-use bx_journal::{Follower, JournalFault, LoggedEvent, Wanted, read_journal};
+use bx_journal::{Amendment, Follower, JournalFault, LoggedEvent, Wanted, read_journal};
 use std::io::Read;
 
-/// A letter for each event, `t`, `d`, `e`, `h`, `o` or `s`: `d` is a second without a link, `e` one by the older rules; and after `h`, of
-/// what came, `o`, of what came by the older rules, and `s`, of what was sold, the octets and a full stop.
+/// A letter for each event, `t`, `d`, `e`, `h`, `o`, `s`, `x` or `c`: `d` is a second without a link, `e` one by the older rules; and after
+/// `h`, of what came, `o`, of what came by the older rules, `s`, of what was sold, `x`, of what was cancelled, and `c`, of what was changed,
+/// the octets and a full stop.
 #[derive(Drop)]
 pub struct Told {
     pub marks: ArrayVec<u8, 256>,
@@ -17,6 +18,15 @@ pub struct Told {
 pub fn mark(marks: &mut ArrayVec<u8, 256>, octets: &[u8]) {
     for octet in octets {
         let _ = marks.try_push(*octet);
+    }
+}
+
+/// The letter of what amends the plan so.
+fn letter(kind: Amendment) -> u8 {
+    match kind {
+        Amendment::Sold => b's',
+        Amendment::Cancelled => b'x',
+        Amendment::Changed => b'c',
     }
 }
 
@@ -33,9 +43,9 @@ impl Follower for Told {
             }
             LoggedEvent::Down(Rules::Three) => mark(&mut self.marks, b"d"),
             LoggedEvent::Down(Rules::Two) => mark(&mut self.marks, b"e"),
-            LoggedEvent::Sold(booking) => {
-                mark(&mut self.marks, b"s");
-                mark(&mut self.marks, booking);
+            LoggedEvent::Amended(kind, text) => {
+                mark(&mut self.marks, &[letter(*kind)]);
+                mark(&mut self.marks, text);
                 mark(&mut self.marks, b".");
             }
             LoggedEvent::HeardByRulesTwo(octets) => {

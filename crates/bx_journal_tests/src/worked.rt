@@ -1,7 +1,7 @@
 //! A journal that the tests share.
 
 use bx_calls::Rules;
-use bx_journal::{Event, Head, JournalDay, LiveEvent};
+use bx_journal::{Amendment, Event, Head, JournalDay, LiveEvent};
 
 /// The digest of some plan.
 pub static PLAN: [u8; 32] = [0xAB; 32];
@@ -18,6 +18,10 @@ pub static HEAD: Head = Head {
 /// A tick, a STATUS ENQUIRY, a second without a link, a tick, a message without octets, and a booking that is sold.
 pub static TEXT: &[u8] =
     b"bx-journal 2 rules 3\nplan abababababababababababababababababababababababababababababababab\nday live 1767222000 60\ntick\nheard 0802010075\ndown\ntick\nheard \nsold 60 90 5 1234 in\n";
+
+/// A booking that is given up, and one that is changed.
+pub static AMENDED: &[u8] =
+    b"bx-journal 2 rules 3\nplan abababababababababababababababababababababababababababababababab\nday live 1767222000 60\ncancelled 12\nchanged 12 60 90 5 1234 - in\n";
 
 /// Where the head ends, and each event after it.
 pub static ENDS: [u64; 7] = [114, 119, 136, 141, 146, 153, 174];
@@ -38,7 +42,7 @@ pub const TICK: LiveEvent<'static> = LiveEvent::OnLink(Event::Tick);
 
 pub const DOWN: LiveEvent<'static> = LiveEvent::WithoutLink(Rules::Three);
 
-pub const SOLD: LiveEvent<'static> = LiveEvent::Sold(b"60 90 5 1234 in");
+pub const SOLD: LiveEvent<'static> = LiveEvent::Amended(Amendment::Sold, b"60 90 5 1234 in");
 
 /// A STATUS ENQUIRY.
 pub static ENQUIRY: [u8; 5] = [0x08, 0x02, 0x01, 0x00, 0x75];

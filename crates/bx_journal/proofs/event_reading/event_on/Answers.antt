@@ -12,3 +12,11 @@ returns-then-eq-3 c =
     let word : bytes_eq (take 6 line) (codes "heard ") ≡ true = search rules steps 1000000 in
     let all : take (length line - 6) (drop 6 line) ≡ drop 6 line = take_all (length line - 6) (drop 6 line) (omega (arith, length-drop 6 line)) in
     rw (tick, down, word) (c.heard_on.ensures ∙ ap (heard_on c.args.version) all)
+
+pub returns-else-line-ge6 : goal.returns-else-line-ge6
+returns-else-line-ge6 c =
+    let line = c.args.line.now in
+    let tick : bytes_eq line (codes "tick") ≡ false = search rules steps 1000000 in
+    let down : bytes_eq line (codes "down") ≡ false = search rules steps 1000000 in
+    let word : bytes_eq (take 6 line) (codes "heard ") ≡ false = search rules steps 1000000 in
+    rw (tick, down, word) c.amendment_on.ensures
