@@ -9,6 +9,8 @@ pub mod StayingFirst
 pub mod Beside
 pub mod Fitting
 mod Tags
+mod RowLines
+mod RowChanges
 pub mod Rows
 pub mod OneMore
 mod FreeChannels

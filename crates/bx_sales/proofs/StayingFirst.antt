@@ -1,5 +1,5 @@
--- A first-fit day stays one, whatever is given up before its start and whatever gets another end.
-use Rattle.std.proofs.Common.{◌≡◌, ◌≢◌, ℕ, zero, suc, [], ◌∷◌, ◌-◌, ◌<◌, Bool, false, List, map, length, arith, refl, sym, subst, ap, ◌∙◌, inl, inr, set, get_or-set_same, get_or-set_other, length-set}
+-- A first-fit day stays one, whatever is given up before its start and whatever becomes another.
+use Rattle.std.proofs.Common.{◌≡◌, ◌≢◌, ℕ, zero, suc, [], ◌∷◌, ◌-◌, ◌<◌, ◌≤◌, Bool, false, List, map, length, arith, refl, sym, subst, ap, ◌∙◌, inl, inr, set, get_or-set_same, get_or-set_other, length-set}
 use Rattle.std.proofs.lemmas.Bool.{true≢false, cases_eq}
 use Rattle.bx_base.specs.Bookings.{Row, row_at, no_row}
 use Rattle.bx_colour.specs.ChangedRows.{IsSameUpTo, AreSameUpTo}
@@ -10,7 +10,7 @@ use Rattle.bx_day.specs.Day.{Day, entry_at, opening}
 use Rattle.bx_day.specs.Outages.{live_day_after}
 use Rattle.bx_day.specs.declared.entry.Entry.{Entry}
 use Rattle.bx_day.proofs.ChangedPlan.{changed_day}
-use Rattle.bx_sales.specs.Changing.{IsRecoloured, IsOtherColouring, IsPromised, marks_without, row_until, rows_until, IsLaterEnd}
+use Rattle.bx_sales.specs.Changing.{IsRecoloured, IsOtherColouring, IsPromised, MayBecome, MayBeCancelled, MayBeChanged, HasOtherEnd, marks_without, rows_changed_in}
 use Rattle.bx_sales.specs.Firsts.{AreCalledAlike}
 use Rattle.bx_sales.specs.Selling.{rows_of, marks_of}
 use Rattle.bx_sales.specs.Sold.{IsFirstFitDay}
@@ -102,43 +102,53 @@ module _ (d : Day) (row : ℕ) (p : IsPromised d.entries row) where
     no_other = λ i lt marked by. (lt, elim (cases_eq i place) [ inl here ↦ absurd (true≢false (sym marked ∙ no_mark i here)) | inr other ↦ sym (other_mark i other) ∙ marked ], by);
   }
 
-  -- ---- another end
+  -- ---- a booking that becomes another
 
-  abbrev changed_row : ℕ → Row
-  changed_row end = row_until (entry_at d.entries place).booking end
+  other_row : (b : Row) (i : ℕ) → i ≢ place → row_at (rows_changed_in (rows_of d) row b) i ≡ row_at (rows_of d) i
+  other_row b i differs = get_or-set_other (rows_of d) place i b no_row differs
 
-  other_row : (end i : ℕ) → i ≢ place → row_at (rows_until d row end) i ≡ row_at (rows_of d) i
-  other_row end i differs = get_or-set_other (rows_of d) place i (changed_row end) no_row differs
+  this_row : (b : Row) → row_at (rows_changed_in (rows_of d) row b) place ≡ b
+  this_row b = get_or-set_same (rows_of d) place b no_row within
 
-  this_row : (end : ℕ) → row_at (rows_until d row end) place ≡ changed_row end
-  this_row end = get_or-set_same (rows_of d) place (changed_row end) no_row within
+  -- where it starts by now, before or after, it is the same call
+  same_call : (b : Row) → MayBecome d.moment (row_at (rows_of d) place) b → (row_at (rows_of d) place).start ≤ d.moment → HasOtherEnd d.moment (row_at (rows_of d) place) b
+  same_call b may by = elim may [ inl ahead ↦ absurd (let l = ahead.0 in omega (arith, l, by)) | inr same ↦ same ]
 
-  same_row : (end i : ℕ) → IsLaterEnd d row end → IsSameUpTo d.moment (row_at (rows_of d) i) (row_at (rows_until d row end) i)
-  same_row end i later = elim (cases_eq i place) [
-    | inl here ↦ subst (λ k. IsSameUpTo d.moment (row_at (rows_of d) k) (row_at (rows_until d row end) k)) (sym here)
-        (subst (IsSameUpTo d.moment (row_at (rows_of d) place)) (sym (this_row end)) (subst (λ (b : Row). IsSameUpTo d.moment b (changed_row end)) (sym (row_there d.entries place inside)) (record { start = refl; end = inr (later.running, later.later) })))
-    | inr other ↦ subst (IsSameUpTo d.moment (row_at (rows_of d) i)) (sym (other_row end i other)) (record { start = refl; end = inl refl })
+  same_call_after : (b : Row) → MayBecome d.moment (row_at (rows_of d) place) b → b.start ≤ d.moment → HasOtherEnd d.moment (row_at (rows_of d) place) b
+  same_call_after b may by = elim may [ inl ahead ↦ absurd (let l = ahead.1 in omega (arith, l, by)) | inr same ↦ same ]
+
+  -- what holds of a row and of what stands there after the change: by place
+  by_place : (P : Row → Row → Type 0) (b : Row) (i : ℕ) → (i ≡ place → P (row_at (rows_of d) place) b) → ((r : Row) → P r r) → P (row_at (rows_of d) i) (row_at (rows_changed_in (rows_of d) row b) i)
+  by_place P b i here there = elim (cases_eq i place) [
+    | inl is ↦ subst (λ k. P (row_at (rows_of d) k) (row_at (rows_changed_in (rows_of d) row b) k)) (sym is) (subst (P (row_at (rows_of d) place)) (sym (this_row b)) (here is))
+    | inr other ↦ subst (P (row_at (rows_of d) i)) (sym (other_row b i other)) (there (row_at (rows_of d) i))
   ]
 
-  pub same_until : (channels : List Bool) (end : ℕ) → IsLaterEnd d row end → AreSameUpTo d.moment (rows_of d) (marks_of d) (λ i. channels) (rows_until d row end) (marks_of d) (λ i. channels)
-  same_until channels end later =
-      let size = length-set (rows_of d) place (changed_row end) in
+  begun_same : (b : Row) (i : ℕ) → MayBecome d.moment (row_at (rows_of d) place) b → (row_at (rows_of d) i).start ≤ d.moment → IsSameUpTo d.moment (row_at (rows_of d) i) (row_at (rows_changed_in (rows_of d) row b) i)
+  begun_same b i may by = by_place (IsSameUpTo d.moment) b i
+      (λ is. let h = same_call b may (subst (λ k. (row_at (rows_of d) k).start ≤ d.moment) is by) in record { start = h.start; end = inr (h.running, h.later) })
+      (λ r. record { start = refl; end = inl refl })
+
+  begun_before : (b : Row) (i : ℕ) → MayBecome d.moment (row_at (rows_of d) place) b → (row_at (rows_changed_in (rows_of d) row b) i).start ≤ d.moment → (row_at (rows_of d) i).start ≤ d.moment
+  begun_before b i may = by_place (λ old new. new.start ≤ d.moment → old.start ≤ d.moment) b i (λ is by. (same_call_after b may by).begun) (λ r by. by)
+
+  called_same : (b : Row) (i : ℕ) → MayBecome d.moment (row_at (rows_of d) place) b → (row_at (rows_of d) i).start ≤ d.moment → ((row_at (rows_changed_in (rows_of d) row b) i).number ≡ (row_at (rows_of d) i).number) × ((row_at (rows_changed_in (rows_of d) row b) i).inward ≡ (row_at (rows_of d) i).inward)
+  called_same b i may by = by_place (λ old new. (new.number ≡ old.number) × (new.inward ≡ old.inward)) b i
+      (λ is. let h = same_call b may (subst (λ k. (row_at (rows_of d) k).start ≤ d.moment) is by) in (h.number, h.inward))
+      (λ r. (refl, refl))
+
+  pub same_changed : (channels : List Bool) (b : Row) → MayBecome d.moment (row_at (rows_of d) place) b → AreSameUpTo d.moment (rows_of d) (marks_of d) (λ i. channels) (rows_changed_in (rows_of d) row b) (marks_of d) (λ i. channels)
+  same_changed channels b may =
+      let size = length-set (rows_of d) place b in
       record {
         longer = omega (arith, size);
-        begun = λ i lt marked by. (marked, same_row end i later);
+        begun = λ i lt marked by. (marked, begun_same b i may by);
         choices = λ i lt marked by. refl;
-        no_other = λ i lt marked by. (let s = (same_row end i later).start in (omega (arith, lt, size), marked, omega (arith, by, s)));
+        no_other = λ i lt marked by. (omega (arith, lt, size), marked, begun_before b i may by);
       }
 
-  called_row : (end i : ℕ) → ((row_at (rows_until d row end) i).number ≡ (row_at (rows_of d) i).number) × ((row_at (rows_until d row end) i).inward ≡ (row_at (rows_of d) i).inward)
-  called_row end i = elim (cases_eq i place) [
-    | inl here ↦ subst (λ k. ((row_at (rows_until d row end) k).number ≡ (row_at (rows_of d) k).number) × ((row_at (rows_until d row end) k).inward ≡ (row_at (rows_of d) k).inward)) (sym here)
-        (ap (λ (b : Row). b.number) (this_row end) ∙ sym (ap (λ (b : Row). b.number) (row_there d.entries place inside)), ap (λ (b : Row). b.inward) (this_row end) ∙ sym (ap (λ (b : Row). b.inward) (row_there d.entries place inside)))
-    | inr other ↦ (ap (λ (b : Row). b.number) (other_row end i other), ap (λ (b : Row). b.inward) (other_row end i other))
-  ]
+pub never_other_without : (channels : List Bool) (row : ℕ) (d : Day) → IsFirstFitDay channels d → MayBeCancelled d row → ¬ IsOtherColouring channels (rows_of d) (marks_without d row) d
+never_other_without channels row d f may = never_other channels d f (rows_of d) (marks_without d row) (same_without d row may.promised channels may.ahead) (λ i lt marked by. (refl, refl))
 
-pub never_other_without : (channels : List Bool) (row : ℕ) (d : Day) → IsFirstFitDay channels d → IsPromised d.entries row → d.moment < (entry_at d.entries (row - 1)).booking.start → ¬ IsOtherColouring channels (rows_of d) (marks_without d row) d
-never_other_without channels row d f p later = never_other channels d f (rows_of d) (marks_without d row) (same_without d row p channels later) (λ i lt marked by. (refl, refl))
-
-pub never_other_until : (channels : List Bool) (row end : ℕ) (d : Day) → IsFirstFitDay channels d → IsPromised d.entries row → IsLaterEnd d row end → ¬ IsOtherColouring channels (rows_until d row end) (marks_of d) d
-never_other_until channels row end d f p later = never_other channels d f (rows_until d row end) (marks_of d) (same_until d row p channels end later) (λ i lt marked by. called_row d row p end i)
+pub never_other_changed : (channels : List Bool) (row : ℕ) (b : Row) (d : Day) → IsFirstFitDay channels d → MayBeChanged d row b → ¬ IsOtherColouring channels (rows_changed_in (rows_of d) row b) (marks_of d) d
+never_other_changed channels row b d f m = never_other channels d f (rows_changed_in (rows_of d) row b) (marks_of d) (same_changed d row m.promised channels b m.may) (λ i lt marked by. called_same d row m.promised b i m.may by)

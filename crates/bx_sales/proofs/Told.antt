@@ -1,5 +1,4 @@
--- The journal tells the day, by induction along it: so far the day is that of one first-fit plan over the events so far. A sale
--- makes the plan longer, and the law of longer plans carries the events so far over to it. First fit is one colouring of its marks.
+-- A day has the bookings and the marks of its plan; and first fit is one colouring of its marks.
 use Rattle.std.proofs.Common.{◌≡◌, ℕ, suc, ◌+◌, ◌<◌, not, Bool, true, false, List, [], ◌∷◌, ◌++◌, map, length, Option, None, arith, refl, sym, subst, ap, ap₂, ◌∙◌, slice_index_or}
 use Rattle.std.proofs.lemmas.List.{length-append}
 use Rattle.bx_base.specs.Bookings.{Row, row_at, AreBookings, Carries}
@@ -15,7 +14,6 @@ use Rattle.bx_sales.proofs.ExtendedBy.{size, frame_at, goes_on}
 use Rattle.bx_sales.proofs.Sales.{one_more, joined}
 use Rattle.bx_events.specs.Events.{LiveEvent}
 use Rattle.bx_sales.specs.Selling.{rows_of, marks_of, rows_with, marks_with}
-use Rattle.bx_sales.specs.Sold.{Item, Happened, Bought, events_logged_in, bought_in, GoesThrough}
 
 pub nothing_more : {X : Type 0} (xs : List X) → xs ++ [] ≡ xs
 nothing_more [] = refl
@@ -68,36 +66,3 @@ pub marks_now : (rows : List Row) (channels accepted : List Bool) (assigned : Li
 marks_now rows channels accepted assigned events count bookings carries first = same_marks (live_day_after events (opening rows assigned)).entries accepted (size rows channels assigned events bookings carries ∙ sym count) (λ i inside.
     let lt : i < length rows = omega (arith, inside, count) in
     ap not (frame_at rows channels assigned events bookings carries i lt).accepted ∙ twice_not (is_accepted assigned i) ∙ marked rows channels accepted assigned i (is_in accepted i) first refl lt)
-
--- ---- along the journal
-
-pub told : (channels : List Bool) (items : List Item) (rows : List Row) (accepted : List Bool) (assigned : List (Option ℕ)) (events : List LiveEvent) (d now : Day) → length accepted ≡ length rows → AreBookings rows → Carries rows channels (is_accepted assigned) (channel_at assigned) → IsFirstFit rows channels accepted assigned → d ≡ live_day_after events (opening rows assigned) → GoesThrough channels items d now → (last : List (Option ℕ)) → IsFirstFit (rows ++ bought_in items) channels (accepted ++ map (λ (row : Row). true) (bought_in items)) last → now ≡ live_day_after (events ++ events_logged_in items) (opening (rows ++ bought_in items) last)
-told channels [] rows accepted assigned events d now count bookings carries first is through last fit =
-    let p : rows ++ [] ≡ rows = nothing_more rows in
-    let fit1 = subst (λ rs. IsFirstFit rs channels (accepted ++ []) last) p fit in
-    let fit2 = subst (λ ms. IsFirstFit rows channels ms last) (nothing_more accepted) fit1 in
-    through ∙ is ∙ ap (λ a. live_day_after events (opening rows a)) (once rows channels accepted assigned last first fit2)
-    ∙ ap₂ (λ xs rs. live_day_after xs (opening rs last)) (sym (nothing_more events)) (sym p)
-told channels (Happened event ∷ items) rows accepted assigned events d now count bookings carries first is through last fit =
-    told channels items rows accepted assigned (events ++ event ∷ []) (live_happens d event).day now count bookings carries first (ap (λ (x : Day). (live_happens x event).day) is ∙ one_more events event (opening rows assigned)) through last fit
-    ∙ ap (λ xs. live_day_after xs (opening (rows ++ bought_in items) last)) (joined events (events_logged_in items) event)
-told channels (Bought row ∷ items) rows accepted assigned events d now count bookings carries first is through last fit =
-    let sold = through.0 in
-    let s = through.1 in
-    let r : rows_with d row ≡ rows ++ row ∷ [] = ap (λ rs. rs ++ row ∷ []) (ap rows_of is ∙ rows_now rows channels assigned events bookings carries) in
-    let k : marks_with d ≡ accepted ++ true ∷ [] = ap (λ ms. ms ++ true ∷ []) (ap marks_of is ∙ marks_now rows channels accepted assigned events count bookings carries first) in
-    let fit1 = subst (λ rs. IsFirstFit rs channels (marks_with d) s.assigned) r s.first_fit in
-    let fit2 = subst (λ ms. IsFirstFit (rows ++ row ∷ []) channels ms s.assigned) k fit1 in
-    let bookings1 = subst AreBookings r s.sale.bookings in
-    let carries1 = subst (λ rs. Carries rs channels (is_accepted s.assigned) (channel_at s.assigned)) r s.sale.carried in
-    let tested = subst (λ rs. IsExtendedBy d rs s.assigned) r s.sale.extended_by in
-    let day : sold ≡ live_day_after events (opening (rows ++ row ∷ []) s.assigned) =
-    s.day ∙ ap (λ rs. extended rs s.assigned d) r ∙ ap (extended (rows ++ row ∷ []) s.assigned) is
-    ∙ sym (goes_on rows channels assigned events bookings carries (rows ++ row ∷ []) s.assigned bookings1 (subst (λ (x : Day). IsExtendedBy x (rows ++ row ∷ []) s.assigned) is tested)) in
-    let whole : (rows ++ row ∷ []) ++ bought_in items ≡ rows ++ row ∷ bought_in items = joined rows (bought_in items) row in
-    let all_marks : (accepted ++ true ∷ []) ++ map (λ (x : Row). true) (bought_in items) ≡ accepted ++ true ∷ map (λ (x : Row). true) (bought_in items) = joined accepted (map (λ (x : Row). true) (bought_in items)) true in
-    let fit3 = subst (λ rs. IsFirstFit rs channels (accepted ++ true ∷ map (λ (x : Row). true) (bought_in items)) last) (sym whole) fit in
-    let fit4 = subst (λ ms. IsFirstFit ((rows ++ row ∷ []) ++ bought_in items) channels ms last) (sym all_marks) fit3 in
-    let longer : length (accepted ++ true ∷ []) ≡ length (rows ++ row ∷ []) = (let a = length-append accepted (true ∷ []) in let b = length-append rows (row ∷ []) in omega (arith, a, b, count)) in
-    told channels items (rows ++ row ∷ []) (accepted ++ true ∷ []) s.assigned events sold now longer bookings1 carries1 fit2 day through.2 last fit4
-    ∙ ap (λ rs. live_day_after (events ++ events_logged_in items) (opening rs last)) whole

@@ -1,7 +1,7 @@
--- A booking of the day that is given up, and one that gets another end.
-use Rattle.std.specs.Prelude.{◌≡◌, ◌≤◌, ◌<◌, ℕ, ◌-◌, Bool, false, List, Option, length, slice_set}
-use Rattle.bx_base.specs.Bookings.{Row, IsBooking}
-use Rattle.bx_colour.specs.Colouring.{IsFirstFit}
+-- A booking of the day that is given up, and one that becomes another.
+use Rattle.std.specs.Prelude.{◌≡◌, ◌⊎◌, ◌≤◌, ◌<◌, ℕ, ◌-◌, Bool, false, List, Option, length, slice_set}
+use Rattle.bx_base.specs.Bookings.{Row, row_at}
+use Rattle.bx_colour.specs.Colouring.{IsFirstFit, FitsChannels}
 use Rattle.bx_day.specs.Changed.{changed, AgreesWith}
 use Rattle.bx_day.specs.Day.{Day, entry_at}
 use Rattle.bx_day.specs.Invariant.{is_refused}
@@ -37,15 +37,58 @@ pub record HasStarted (d : Day) (row : ℕ) : Type 0 where
 abbrev pub marks_without : Day → ℕ → List Bool
 marks_without d row = slice_set (marks_of d) (row - 1) false
 
--- the same booking with another end
-abbrev pub row_until : Row → ℕ → Row
-row_until b end = record b { end = end }
+-- it may be given up: its start is yet to come
+pub record MayBeCancelled (d : Day) (row : ℕ) : Type 0 where
+  pub promised : IsPromised d.entries row
+  pub ahead : d.moment < (entry_at d.entries (row - 1)).booking.start
 
-abbrev pub rows_until : Day → ℕ → ℕ → List Row
-rows_until d row end = slice_set (rows_of d) (row - 1) (row_until (entry_at d.entries (row - 1)).booking end)
+-- the first-fit plan without it is none that the day goes on with
+pub record MovesByCancel (channels : List Bool) (d : Day) (row : ℕ) : Type 0 where
+  pub may : MayBeCancelled d row
+  pub other : IsOtherColouring channels (rows_of d) (marks_without d row) d
 
--- such an end is later than now, and one that a booking may have
-pub record IsLaterEnd (d : Day) (row end : ℕ) : Type 0 where
-  pub running : d.moment < (entry_at d.entries (row - 1)).booking.end
-  pub later : d.moment < end
-  pub booking : IsBooking (row_until (entry_at d.entries (row - 1)).booking end)
+-- a booking of a row is given up: all others go on
+pub record IsCancelled (channels : List Bool) (row : ℕ) (old new : Day) : Type 0 where
+  pub may : MayBeCancelled old row
+  pub recoloured : IsRecoloured channels (rows_of old) (marks_without old row) old new
+
+-- what a booking may become at moment t: one that starts later, where its own start is yet to come; else the same call with another end, or another
+-- pay, where both ends are yet to come
+pub record HasOtherEnd (t : ℕ) (old new : Row) : Type 0 where
+  pub begun : old.start ≤ t
+  pub start : new.start ≡ old.start
+  pub number : new.number ≡ old.number
+  pub inward : new.inward ≡ old.inward
+  pub running : t < old.end
+  pub later : t < new.end
+
+abbrev pub MayBecome : ℕ → Row → Row → Type 0
+MayBecome t old new = ((t < old.start) × (t < new.start)) ⊎ HasOtherEnd t old new
+
+-- the bookings with another one in a row
+abbrev pub rows_changed_in : List Row → ℕ → Row → List Row
+rows_changed_in rows row b = slice_set rows (row - 1) b
+
+-- it may become this one
+pub record MayBeChanged (d : Day) (row : ℕ) (b : Row) : Type 0 where
+  pub promised : IsPromised d.entries row
+  pub may : MayBecome d.moment (row_at (rows_of d) (row - 1)) b
+
+-- it is promised, and may not
+pub record MayNotBecome (d : Day) (row : ℕ) (b : Row) : Type 0 where
+  pub promised : IsPromised d.entries row
+  pub may_not : ¬ MayBecome d.moment (row_at (rows_of d) (row - 1)) b
+
+-- all fit on the channels with this one in its place
+abbrev pub FitsChanged : List Bool → Day → ℕ → Row → Type 0
+FitsChanged channels d row b = FitsChannels (rows_changed_in (rows_of d) row b) (marks_of d) channels
+
+-- the first-fit plan with this one in its place is none that the day goes on with
+pub record MovesByChange (channels : List Bool) (d : Day) (row : ℕ) (b : Row) : Type 0 where
+  pub may : MayBeChanged d row b
+  pub other : IsOtherColouring channels (rows_changed_in (rows_of d) row b) (marks_of d) d
+
+-- a booking of a row becomes another one: all go on
+pub record IsRowChanged (channels : List Bool) (row : ℕ) (b : Row) (old new : Day) : Type 0 where
+  pub may : MayBeChanged old row b
+  pub recoloured : IsRecoloured channels (rows_changed_in (rows_of old) row b) (marks_of old) old new

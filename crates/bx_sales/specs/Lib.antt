@@ -1,5 +1,6 @@
 pub mod Selling
 pub mod Sold
+pub mod Amending
 pub mod Journal
 pub mod Sales
 pub mod FreeChannels

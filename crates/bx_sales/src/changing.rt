@@ -1,10 +1,9 @@
-//! A booking of the day that is given up before its start, and another end of one.
+//! A booking of the day that is given up before its start, and one that becomes another.
 
-ghost use Rattle.std.specs.Prelude.{◌≡◌, ◌≤◌, ◌<◌, ◌↔◌, ◌-◌, ℕ, Bool, false, OnOk, OnErr, IfSome, IsSome, IsTrue, Err, length};
-ghost use Rattle.bx_base.specs.Bookings.{Row, IsBooking};
+ghost use Rattle.std.specs.Prelude.{◌≡◌, ◌↔◌, OnOk, OnErr, IsTrue, Err};
 ghost use Rattle.bx_colour.specs.Colouring.{FitsChannels};
-ghost use Rattle.bx_sales.specs.Selling.{rows_of, marks_of};
-ghost use Rattle.bx_sales.specs.Changing.{IsRecoloured, IsOtherColouring, IsPromised, HasStarted, marks_without, row_until, rows_until, IsLaterEnd};
+ghost use Rattle.bx_sales.specs.Selling.{rows_of};
+ghost use Rattle.bx_sales.specs.Changing.{IsRecoloured, IsOtherColouring, IsPromised, HasStarted, IsCancelled, IsRowChanged, MayBecome, MayNotBecome, MovesByCancel, MovesByChange, FitsChanged, marks_without};
 
 use crate::listing::{is_accepted, marks_of, marks_without, rows_changed, rows_of};
 use bx_base::{Booking, Bookings, ChannelSet, Plan};
@@ -13,18 +12,15 @@ use bx_day::{Entry, Exchange, NoExtension};
 use std::alloc::Global;
 use thiserror::Error;
 
-/// Why a booking of the day was not given up, or got no other end.
+/// Why a booking of the day was not given up, or not changed.
 #[derive(Clone, Copy, Debug, PartialEq, Eq, Error)]
 pub enum NoChange {
     /// The day has no booking of this row that is promised.
     #[error("NoBooking")]
     NoBooking,
-    /// Its start has come.
+    /// Its start has come, and so it cannot be given up, or become this one.
     #[error("Late")]
     Late,
-    /// Its end has come, or the other end is not later than now, or is none that the booking may have.
-    #[error("BadEnd")]
-    BadEnd,
     /// At some moment more would run than there are channels.
     #[error("NoChannel")]
     NoChannel,
@@ -50,7 +46,6 @@ fn go_on_with(
     ensures other { result ≡ Err NoChange.OtherChannels → IsOtherColouring channels bookings marks.now exchange.old }
     ensures booking { ¬ (result ≡ Err NoChange.NoBooking) }
     ensures late { ¬ (result ≡ Err NoChange.Late) }
-    ensures end { ¬ (result ≡ Err NoChange.BadEnd) }
 {
     // Read for the prover alone, which learns a limit from it.
     let _rows = bookings.len();
@@ -88,13 +83,12 @@ pub fn cancel(
     channels: ChannelSet,
     row: u16,
 ) -> Result<(), NoChange>
-    ensures cancelled { OnOk result (IsRecoloured channels (rows_of exchange.old) (marks_without exchange.old row) exchange.old exchange.new) }
+    ensures cancelled { OnOk result (IsCancelled channels row exchange.old exchange.new) }
     ensures kept { OnErr result (exchange.new ≡ exchange.old) }
     ensures none { (result ≡ Err NoChange.NoBooking) ↔ (¬ IsPromised exchange.old.entries row) }
     ensures late { (result ≡ Err NoChange.Late) ↔ HasStarted exchange.old row }
-    ensures end { ¬ (result ≡ Err NoChange.BadEnd) }
     ensures no_channel { result ≡ Err NoChange.NoChannel → ¬ FitsChannels (rows_of exchange.old) (marks_without exchange.old row) channels }
-    ensures other { result ≡ Err NoChange.OtherChannels → IsOtherColouring channels (rows_of exchange.old) (marks_without exchange.old row) exchange.old }
+    ensures other { result ≡ Err NoChange.OtherChannels → MovesByCancel channels exchange.old row }
 {
     let moment = exchange.moment();
     if !is_promised(exchange.entries(), row) {
@@ -113,65 +107,46 @@ pub fn cancel(
     go_on_with(alloc, exchange, channels, bookings, &marks)
 }
 
-/// The other one, called as this one is, and with its mark.
-fn called_as(booking: Booking, other: Booking) -> Booking
-    requires must { other.must ≡ false }
-    requires inward { other.inward ≡ false }
-    ensures { result ≡ record other { must = booking.must; inward = booking.inward } }
+/// Whether a booking may become another one now: one that starts later, where its own start is yet to come; else the same call with an end that is yet
+/// to come, as its own is.
+fn may_become(moment: u32, booking: Booking, other: Booking) -> bool
+    ensures { IsTrue result ↔ MayBecome moment booking other }
 {
-    let called = if booking.is_inward() {
-        other.as_inward()
-    } else {
-        other
-    };
-    if booking.is_must() {
-        called.as_must()
-    } else {
-        called
+    if booking.start() > moment {
+        return other.start() > moment;
     }
+    other.start() == booking.start()
+        && other.number() == booking.number()
+        && other.is_inward() == booking.is_inward()
+        && booking.end() > moment
+        && other.end() > moment
 }
 
-/// The same booking with another end, where it may have that.
-fn until(booking: Booking, end: u32) -> Option<Booking>
-    ensures exactly { IsSome result ↔ IsBooking (row_until booking end) }
-    ensures value { IfSome result (λ b. b ≡ row_until booking end) }
-{
-    let (start, pay, number) = (booking.start(), booking.pay(), booking.number());
-    let Some(other) = Booking::new(start, end, pay, number) else {
-        return None;
-    };
-    Some(called_as(booking, other))
-}
-
-/// Gives the promised booking of a row another end, which is later than now, as its own is: of a call that is up too. All others are coloured first
-/// fit; what has started keeps its channel. `NoBooking` is tested first, then `BadEnd`. A refusal changes nothing.
-pub fn change_end(
+/// Makes of the promised booking of a row another one: before its start whatever starts later; of a call whose start has come the same with another
+/// end or pay, where both ends are later than now. All are coloured first fit; what has started keeps its channel. `NoBooking` is tested first, then
+/// `Late`. A refusal changes nothing.
+pub fn change(
     alloc: Global,
     exchange: &mut Exchange,
     channels: ChannelSet,
     row: u16,
-    end: u32,
+    booking: Booking,
 ) -> Result<(), NoChange>
-    ensures changed { OnOk result (IsRecoloured channels (rows_until exchange.old row end) (marks_of exchange.old) exchange.old exchange.new) }
+    ensures changed { OnOk result (IsRowChanged channels row booking exchange.old exchange.new) }
     ensures kept { OnErr result (exchange.new ≡ exchange.old) }
     ensures none { (result ≡ Err NoChange.NoBooking) ↔ (¬ IsPromised exchange.old.entries row) }
-    ensures end { (result ≡ Err NoChange.BadEnd) ↔ (IsPromised exchange.old.entries row × (¬ IsLaterEnd exchange.old row end)) }
-    ensures late { ¬ (result ≡ Err NoChange.Late) }
-    ensures no_channel { result ≡ Err NoChange.NoChannel → ¬ FitsChannels (rows_until exchange.old row end) (marks_of exchange.old) channels }
-    ensures other { result ≡ Err NoChange.OtherChannels → IsOtherColouring channels (rows_until exchange.old row end) (marks_of exchange.old) exchange.old }
+    ensures late { (result ≡ Err NoChange.Late) ↔ MayNotBecome exchange.old row booking }
+    ensures no_channel { result ≡ Err NoChange.NoChannel → ¬ FitsChanged channels exchange.old row booking }
+    ensures other { result ≡ Err NoChange.OtherChannels → MovesByChange channels exchange.old row booking }
 {
     let moment = exchange.moment();
     if !is_promised(exchange.entries(), row) {
         return Err(NoChange::NoBooking);
     }
     let place = row as usize - 1;
-    let booking = exchange.entries()[place].booking;
-    if booking.end() <= moment || end <= moment {
-        return Err(NoChange::BadEnd);
+    if !may_become(moment, exchange.entries()[place].booking, booking) {
+        return Err(NoChange::Late);
     }
-    let Some(booking) = until(booking, end) else {
-        return Err(NoChange::BadEnd);
-    };
     let Ok(bookings) = rows_changed(alloc, exchange.entries(), place, booking) else {
         return Err(NoChange::Memory);
     };

@@ -1,17 +1,11 @@
-//! Laws of a day on which bookings are sold.
+//! Laws of a day whose plan is amended while it runs.
 
-ghost use Rattle.bx_sales.specs.Journal.{IsToldByJournal, AreRowsSold};
+ghost use Rattle.bx_sales.specs.Journal.{IsToldByJournal, HasAmendedPlan};
 ghost use Rattle.bx_sales.specs.StayingFirst.{StaysFirstFitChanged};
-ghost use Rattle.bx_sales.specs.Sold.{IsFirstFitSold, IsToldByLog, StaysFirstFit};
+ghost use Rattle.bx_sales.specs.Sold.{IsFirstFitSold, StaysFirstFit};
 ghost use Rattle.bx_sales.specs.Changes.{IsDayOfChangedPlan, IsSentTheSame, IsDayOfLastChange, HasBookingsAtLast, IsLastChangeCarried};
 ghost use Rattle.bx_sales.specs.Firsts.{IsFirstFitChanged};
 ghost use Rattle.bx_sales.specs.Laws.{IsExtendedUpTo, HasSameSentUpTo, IsExtensionTested, GoesOnAsLonger, IsDayOfLastPlan, HasBookingsLast, IsLastPlanCarried};
-
-/// The journal tells the day: where the plan of the morning is first fit, a day that went through events and sales, in whatever order,
-/// is the day of one plan over these events alone: of the morning's bookings with all that was sold after them, coloured once.
-pub fn told_by_log()
-    ensures { IsToldByLog }
-{}
 
 /// A day whose plan is first fit is never refused as `OtherChannels`: the plan with one booking more is one that it goes on with.
 pub fn first_fit_is_sold()
@@ -23,15 +17,18 @@ pub fn first_fit_stays()
     ensures { StaysFirstFit }
 {}
 
-/// A journal that has sales among its events tells the last plan, and the day: it is that of the last plan by just these events.
+/// The journal tells the day: where the plan of the morning is first fit, a day that went through events and amendments, in whatever order, is the day
+/// of one plan over these events alone: of the morning's bookings as the journal amends them, coloured once. So a restart and an audit need the plan of
+/// the morning and the journal, and no plan between.
 pub fn told_by_journal()
     ensures { IsToldByJournal }
 {}
 
-/// A day that went through a journal from the opening of a plan that is carried has the bookings of that plan, and after them those that were
-/// sold, accepted; its channels carry what it has accepted. So the last plan is read off the day.
-pub fn rows_of_a_sold_day()
-    ensures { AreRowsSold }
+/// A day that went through a journal from the opening of a plan that is carried has the bookings of that plan as the journal amends them, and those
+/// accepted that it leaves so; it is the day of a last plan of these, which its channels carry, by just these events. So the last plan is read off the
+/// day.
+pub fn rows_of_an_amended_day()
+    ensures { HasAmendedPlan }
 {}
 
 /// Where a plan extends another from moment m, their days agree up to there. After every list of events after which the moment is
@@ -74,8 +71,9 @@ pub fn first_fit_is_changed()
     ensures { IsFirstFitChanged }
 {}
 
-/// The day of a first-fit plan stays one by each booking that is given up and each other end, and on it neither is refused as `OtherChannels`: a
-/// booking is given up just where its start has not come, and gets another end just where all fit on the channels, unless memory runs out.
+/// The day of a first-fit plan stays one by each booking that is given up and each that becomes another, and on it neither is refused as
+/// `OtherChannels`: a booking is given up just where its start has not come, and becomes another just where all fit on the channels, unless memory runs
+/// out.
 pub fn first_fit_stays_changed()
     ensures { StaysFirstFitChanged }
 {}

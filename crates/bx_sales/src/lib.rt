@@ -1,4 +1,4 @@
-//! Bookings that are sold while the day runs, first come, first served.
+//! Bookings that are sold, given up and changed while the day runs, first come, first served.
 #![tactic(auto)]
 
 mod changing;
@@ -7,11 +7,13 @@ mod free_channel;
 pub mod laws;
 mod listing;
 mod recolouring;
+mod row_line;
 mod selling;
 mod tag;
 
-pub use changing::{NoChange, cancel, change_end};
+pub use changing::{NoChange, cancel, change};
 pub use first_fit::is_first_fit;
 pub use recolouring::recolour;
+pub use row_line::{cancel_line, change_line};
 pub use selling::{NoSale, sell};
-pub use tag::{SaleLine, Tag, behind_tag, sale_line, tag_of};
+pub use tag::{Tag, behind_tag, sale_line, tag_of};

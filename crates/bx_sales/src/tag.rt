@@ -5,10 +5,7 @@ ghost use Rattle.arrayvec.specs.ArrayVec.{array_vec_len};
 ghost use Rattle.bx_sales.specs.Tags.{tag_text, sale_text, is_tagged, behind_tag, tag_of, IsReadBack};
 ghost use Rattle.bx_sales.specs.TagSizes.{IsTagSized};
 
-use arrayvec::ArrayVec;
-
-/// The line of a sale: the text of its booking, and before it the key under which it was asked for, where there was one.
-pub type SaleLine = ArrayVec<u8, 200>;
+use bx_journal::AmendedLine;
 
 /// A key, and what is asked for under it: of each 32 hexadecimal digits of its digest.
 #[derive(Clone, Copy, Debug, PartialEq, Eq)]
@@ -18,7 +15,7 @@ pub struct Tag {
 }
 
 /// Adds octets. They have to have room.
-fn put(line: &mut SaleLine, octets: &[u8])
+pub(crate) fn put(line: &mut AmendedLine, octets: &[u8])
     requires { array_vec_len line.old + length octets.now ≤ 200 }
     ensures items { line.new.items ≡ line.old.items ++ octets.now }
     ensures len { array_vec_len line.new ≡ array_vec_len line.old + length octets.now }
@@ -30,12 +27,12 @@ fn put(line: &mut SaleLine, octets: &[u8])
 }
 
 /// What stands before the booking in the line of a sale under a key.
-fn tag_line(tag: &Tag) -> SaleLine
+fn tag_line(tag: &Tag) -> AmendedLine
     ensures items { result.items ≡ tag_text tag.now }
     ensures len { array_vec_len result ≡ 72 }
     ensures sized { IsTagSized tag.now }
 {
-    let mut line = SaleLine::new();
+    let mut line = AmendedLine::new();
     put(&mut line, b"under ");
     put(&mut line, &tag.key);
     put(&mut line, b" ");
@@ -46,14 +43,14 @@ fn tag_line(tag: &Tag) -> SaleLine
 
 /// The line of a sale of the booking that a text of at most 128 octets tells, under this key, where there is one. Both are read in it
 /// again, where the text alone does not read as one with a key.
-pub fn sale_line(tag: Option<Tag>, booking: &[u8]) -> SaleLine
+pub fn sale_line(tag: Option<Tag>, booking: &[u8]) -> AmendedLine
     requires { length booking.now ≤ 128 }
     ensures text { result.items ≡ sale_text tag booking.now }
     ensures again { is_tagged booking.now ≡ false → IsReadBack tag booking.now result.items }
 {
     let mut line = match tag {
         Some(tag) => tag_line(&tag),
-        None => SaleLine::new(),
+        None => AmendedLine::new(),
     };
     put(&mut line, booking);
     line
