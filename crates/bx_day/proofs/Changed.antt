@@ -27,7 +27,7 @@ use Rattle.bx_calls.specs.NetTable.{net_second, net_unlinked, net_offered, net_i
 use Rattle.bx_calls.specs.declared.net_state.NetState.TheVariants.{DisconnectIndication}
 use Rattle.bx_calls.specs.declared.transition.Next.{Next}
 use Rattle.bx_calls.specs.declared.transition.Next.TheVariants.{Live, Over, Broken}
-use Rattle.bx_events.specs.Events.{Event, Tick, Receive, LiveEvent, OnLink, WithoutLink, Sold, HeardByRulesTwo}
+use Rattle.bx_events.specs.Events.{Event, Tick, Receive, LiveEvent, OnLink, WithoutLink, Amended, HeardByRulesTwo}
 use Rattle.bx_day.specs.declared.entry.Activity.{Activity}
 use Rattle.bx_day.specs.declared.entry.Activity.TheVariants.{Never, Since, Was}
 use Rattle.bx_day.specs.declared.entry.Entry.{Entry}
@@ -622,7 +622,7 @@ module _ (m : ℕ) (d : Day) (ns : List Entry) (now : d.moment < m) where
   event_onto : (e : LiveEvent) → AreShared m (live_happens d e).day.entries ns → (live_happens d e).day.moment < m → Goes m ns d (live_happens d e) (live_happens (onto ns d) e)
   event_onto (OnLink e) after early = happens_onto e after early
   event_onto (WithoutLink rules) after early = let h = without_onto rules m d ns after early in record { day = h.0; sent = refl; shared = h.1 }
-  event_onto (Sold booking) after early = record { day = refl; sent = refl; shared = after }
+  event_onto (Amended kind line) after early = record { day = refl; sent = refl; shared = after }
   event_onto (HeardByRulesTwo octets) after early = let h = read_onto Two (message_at octets) after in record { day = h.day; sent = ap reply_list h.reply; shared = h.shared }
 
 -- ---- a run, from its end on

@@ -6,7 +6,7 @@ use Rattle.std.proofs.Common.{◌≡◌, ℕ, ◌+◌, ◌*◌, ◌≤◌, ◌<�
 use Rattle.std.specs.List.{AllByRecursion, position}
 use Rattle.std.proofs.lemmas.Bool.{false≢true, leb-false, leb-true, le-leb, lt-ltb, le-ltb, and_from, and_right, cases_lt, true≢false}
 use Rattle.bx_q931.specs.Outgoing.{Outgoing}
-use Rattle.bx_events.specs.Events.{Event, Tick, Receive, LiveEvent, OnLink, WithoutLink, Sold, HeardByRulesTwo}
+use Rattle.bx_events.specs.Events.{Event, Tick, Receive, LiveEvent, OnLink, WithoutLink, Amended, HeardByRulesTwo}
 use Rattle.bx_q931.specs.Messages.{PlainMessage, message_at}
 use Rattle.bx_q931.specs.declared.fault.MessageFault.{MessageFault}
 use Rattle.bx_q931.specs.declared.kind.Kind.{Kind}
@@ -296,7 +296,7 @@ without_clears rules lost d fits h =
 event_clears : (lost : ℕ → Lost) (d : Day) (e : LiveEvent) → DayFits d → DayClears lost d → DayClears (λ m. lost_by m d e (lost m)) (live_happens d e).day
 event_clears lost d (OnLink e) fits h = happens_clears lost d e fits h
 event_clears lost d (WithoutLink rules) fits h = without_clears rules lost d fits h
-event_clears lost d (Sold booking) fits h = h
+event_clears lost d (Amended kind line) fits h = h
 event_clears lost d (HeardByRulesTwo octets) fits h = read_clears Two lost d (message_at octets) fits h
 
 pub run_clears : (rows : List Row) (assigned : List (Option ℕ)) (lost : ℕ → Lost) (events : List LiveEvent) (d : Day) → RunFits rows assigned d → DayClears lost d → DayClears (λ m. lost_after m events d (lost m)) (live_day_after events d)

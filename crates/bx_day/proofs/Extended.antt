@@ -23,7 +23,7 @@ use Rattle.bx_calls.specs.Said.{Said, said_under}
 use Rattle.bx_calls.specs.Saying.{setup_of}
 use Rattle.bx_calls.specs.Sending.{Sent, Answered, reply_list}
 use Rattle.bx_calls.specs.NetTable.{net_second, net_unlinked, net_offered}
-use Rattle.bx_events.specs.Events.{Event, Tick, Receive, LiveEvent, OnLink, WithoutLink, Sold, HeardByRulesTwo}
+use Rattle.bx_events.specs.Events.{Event, Tick, Receive, LiveEvent, OnLink, WithoutLink, Amended, HeardByRulesTwo}
 use Rattle.bx_day.specs.declared.entry.Activity.TheVariants.{Never}
 use Rattle.bx_day.specs.declared.entry.Entry.{Entry}
 use Rattle.bx_day.specs.declared.entry.Link.{Link}
@@ -452,7 +452,7 @@ module _ (m : ℕ) (d : Day) (ns : List Entry) (seats : AreSeats m d.entries ns)
   event_over : (e : LiveEvent) → (live_happens d e).day.moment < m → Goes m ns (live_happens d e) (live_happens (over ns d) e)
   event_over (OnLink e) before = happens_over e before
   event_over (WithoutLink rules) before = let h = without_over rules m d ns seats before in record { day = h.0; sent = refl; seats = h.1 }
-  event_over (Sold booking) before = record { day = refl; sent = refl; seats = seats }
+  event_over (Amended kind line) before = record { day = refl; sent = refl; seats = seats }
   event_over (HeardByRulesTwo octets) before = let h = read_over Two (message_at octets) in record { day = h.day; sent = ap reply_list h.reply; seats = h.seats }
 
 -- ---- a run: the moment never goes back
@@ -498,7 +498,7 @@ pub event_later : (d : Day) (e : LiveEvent) → Later d (live_happens d e).day
 event_later d (OnLink Tick) = by_cases (nat_le 300000 d.moment) _ _ (λ (x : Sent Day). Later d x.day) (λ _. omega arith) (λ _. omega arith)
 event_later d (OnLink (Receive octets)) = read_later Three d (message_at octets)
 event_later d (WithoutLink rules) = by_cases (nat_le 300000 d.moment) _ _ (Later d) (λ _. omega arith) (λ _. omega arith)
-event_later d (Sold booking) = omega arith
+event_later d (Amended kind line) = omega arith
 event_later d (HeardByRulesTwo octets) = read_later Two d (message_at octets)
 
 pub run_later : (events : List LiveEvent) (d : Day) → d.moment ≤ (live_day_after events d).moment

@@ -30,7 +30,7 @@ use Rattle.bx_day.specs.Day.{is_back, Day, entry_at, no_entry, opening, entry_of
 use Rattle.bx_day.specs.Ticks.{after_in, second_at, second_by, waits, tick, passed_in}
 use Rattle.bx_day.specs.Receipts.{hears, takes_call, takes_or, takes_preferred, called_on, called, stray, received_at, receive, opens, lowest_open, names, with_moved}
 use Rattle.bx_calls.specs.Sending.{Sent, Answered}
-use Rattle.bx_events.specs.Events.{Event, Tick, Receive, LiveEvent, OnLink, WithoutLink, Sold, HeardByRulesTwo}
+use Rattle.bx_events.specs.Events.{Event, Tick, Receive, LiveEvent, OnLink, WithoutLink, Amended, HeardByRulesTwo}
 use Rattle.bx_day.specs.Outages.{Lost, without_link_by, live_happens, live_day_after}
 use Rattle.bx_day.specs.Run.{receive_from, receive_read, happens, day_after}
 use Rattle.bx_q931.specs.Messages.{PlainMessage, message_at}
@@ -271,7 +271,7 @@ without_run rules rows assigned d h = record { day = without_fits rules d h.day;
 pub live_fits : (rows : List Row) (assigned : List (Option ℕ)) (d : Day) (e : LiveEvent) → RunFits rows assigned d → RunFits rows assigned (live_happens d e).day
 live_fits rows assigned d (OnLink e) h = happens_fits rows assigned d e h
 live_fits rows assigned d (WithoutLink rules) h = without_run rules rows assigned d h
-live_fits rows assigned d (Sold booking) h = h
+live_fits rows assigned d (Amended kind line) h = h
 live_fits rows assigned d (HeardByRulesTwo octets) h = read_run Two rows assigned d (message_at octets) h
 
 pub live_run : (rows : List Row) (assigned : List (Option ℕ)) (events : List LiveEvent) (d : Day) → RunFits rows assigned d → RunFits rows assigned (live_day_after events d)

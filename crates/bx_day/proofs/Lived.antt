@@ -21,7 +21,7 @@ use Rattle.bx_calls.specs.Sending.{Sent, Answered}
 use Rattle.bx_calls.specs.NetTable.{net_second, net_unlinked, net_message}
 use Rattle.bx_calls.specs.declared.transition.Next.{Next}
 use Rattle.bx_calls.specs.declared.transition.Next.TheVariants.{Live, Over, Broken}
-use Rattle.bx_events.specs.Events.{Tick, Receive, LiveEvent, OnLink, WithoutLink, Sold, HeardByRulesTwo}
+use Rattle.bx_events.specs.Events.{Tick, Receive, LiveEvent, OnLink, WithoutLink, Amended, HeardByRulesTwo}
 use Rattle.bx_day.specs.declared.entry.Activity.{Activity}
 use Rattle.bx_day.specs.declared.entry.Activity.TheVariants.{Never, Since, Was}
 use Rattle.bx_day.specs.declared.entry.Entry.{Entry}
@@ -175,7 +175,7 @@ event_lived : (d : Day) (e : LiveEvent) → AllByRecursion (EntryFits d.moment) 
 event_lived d (OnLink Tick) f h = by_cases (nat_le 300000 d.moment) _ _ (λ (x : Sent Day). AllLived x.day) (λ _. h) (λ _. seconds_lived Up d d.entries f h)
 event_lived d (OnLink (Receive octets)) f h = read_lived Three d (message_at octets) f h
 event_lived d (WithoutLink rules) f h = by_cases (nat_le 300000 d.moment) _ _ AllLived (λ _. h) (λ _. seconds_lived (Down rules) d d.entries f h)
-event_lived d (Sold booking) f h = h
+event_lived d (Amended kind line) f h = h
 event_lived d (HeardByRulesTwo octets) f h = read_lived Two d (message_at octets) f h
 
 run_lived : (rows : List Row) (assigned : List (Option ℕ)) (events : List LiveEvent) (d : Day) → RunFits rows assigned d → AllLived d → AllLived (live_day_after events d)

@@ -1,10 +1,10 @@
 -- A second without a link to the far end, as while its connection is lost or the program is down: time goes on, but no
 -- timer runs, nothing is offered and nothing is sent. A booking that ends clears its call for the first tick with a
 -- link. And the days of an exchange that goes through such seconds between its turns on the link.
--- That a booking is sold changes nothing of the day of the last plan, which has it from the morning on. What a journal of the rules 2
+-- What amends the plan changes nothing of the day of the last plan, which has it from the morning on. What a journal of the rules 2
 -- heard is heard by these, and a second without a link is gone through by the rules that it tells.
 use Rattle.std.specs.Prelude.{ℕ, ◌+◌, List, [], ◌∷◌, Bool, true, false, ◌&&◌, nat_le, nat_lt, if◌then◌else◌}
-use Rattle.bx_events.specs.Events.{Tick, Receive, LiveEvent, OnLink, WithoutLink, Sold, HeardByRulesTwo}
+use Rattle.bx_events.specs.Events.{Tick, Receive, LiveEvent, OnLink, WithoutLink, Amended, HeardByRulesTwo}
 use Rattle.bx_events.specs.declared.rules.Rules.{Rules}
 use Rattle.bx_day.specs.declared.entry.Link.TheVariants.{Down}
 use Rattle.bx_day.specs.Day.{Day}
@@ -24,7 +24,7 @@ without_link d = without_link_by Three d
 abbrev pub live_happens : Day → LiveEvent → Sent Day
 live_happens d (OnLink event) = happens d event
 live_happens d (WithoutLink rules) = record { day = without_link_by rules d; sent = [] }
-live_happens d (Sold booking) = record { day = d; sent = [] }
+live_happens d (Amended kind line) = record { day = d; sent = [] }
 live_happens d (HeardByRulesTwo octets) =
     record { day = (receive_octets_by Two d octets).day; sent = reply_list (receive_octets_by Two d octets).reply }
 
@@ -52,7 +52,7 @@ abbrev pub lost_by : ℕ → Day → LiveEvent → Lost → Lost
 lost_by m d (OnLink Tick) x = record x { lasts = false }
 lost_by m d (OnLink (Receive octets)) x = x
 lost_by m d (WithoutLink rules) x = if nat_le m d.moment && nat_lt d.moment LAST_MOMENT then one_more x else x
-lost_by m d (Sold booking) x = x
+lost_by m d (Amended kind line) x = x
 lost_by m d (HeardByRulesTwo octets) x = x
 
 abbrev pub lost_after : ℕ → List LiveEvent → Day → Lost → Lost

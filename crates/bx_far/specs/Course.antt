@@ -1,7 +1,7 @@
 -- A far end as an end of the link: for a tick its messages and the end of the turn are written, for a message the reply to it.
 use Rattle.std.specs.Prelude.{ℕ, ◌+◌, min, List, [], ◌∷◌, ◌++◌}
 use Rattle.arrayvec.specs.ArrayVec.{ArrayVec}
-use Rattle.bx_events.specs.Events.{Event, Tick, Receive, LiveEvent, OnLink, WithoutLink, Sold, HeardByRulesTwo}
+use Rattle.bx_events.specs.Events.{Event, Tick, Receive, LiveEvent, OnLink, WithoutLink, Amended, HeardByRulesTwo}
 use Rattle.bx_frames.specs.Frames.{frames_of, turn_frame}
 use Rattle.bx_calls.specs.Sending.{reply_list, spelled}
 use Rattle.bx_far.specs.FarDay.{FarDay, far_tick, far_without_link}
@@ -36,11 +36,11 @@ abbrev pub far_line_text : FarDay → Event → List ℕ
 far_line_text d Tick = far_text d Tick
 far_line_text d (Receive octets) = frames_of (spelled (reply_list (far_receive_live_octets d octets).reply))
 
--- the day over seconds without a link too; of what is sold, and of what came to an exchange of the rules 2, it knows nothing
+-- the day over seconds without a link too; of what amends the plan, and of what came to an exchange of the rules 2, it knows nothing
 abbrev pub far_live_next : FarDay → LiveEvent → FarDay
 far_live_next d (OnLink event) = far_line_next d event
 far_live_next d (WithoutLink rules) = far_without_link d
-far_live_next d (Sold line) = d
+far_live_next d (Amended kind line) = d
 far_live_next d (HeardByRulesTwo octets) = d
 
 abbrev pub far_live_after : List LiveEvent → FarDay → FarDay

@@ -1,7 +1,7 @@
 -- The events of a far end's day, as the acts of its run tell them.
 use Rattle.bx_events.specs.declared.rules.Rules.TheVariants.{Three}
 use Rattle.std.specs.Prelude.{List, [], ◌∷◌, ◌++◌, ℕ, Ok}
-use Rattle.bx_events.specs.Events.{Event, Tick, Receive, LiveEvent, OnLink, WithoutLink, Sold, HeardByRulesTwo}
+use Rattle.bx_events.specs.Events.{Event, Tick, Receive, LiveEvent, OnLink, WithoutLink, Amended, HeardByRulesTwo}
 use Rattle.bx_frames.specs.declared.frame.Frame.TheVariants as frames
 use Rattle.bx_live.specs.declared.world.Begin.TheVariants as begins
 use Rattle.bx_live.specs.Acts.{Act, Began, Read}
@@ -15,11 +15,11 @@ far_events (Began second begins.Late ∷ acts) = WithoutLink Three ∷ far_event
 far_events (Read room (Ok (frames.Message octets)) ∷ acts) = OnLink (Receive octets.items) ∷ far_events acts
 far_events (act ∷ acts) = far_events acts
 
--- what is told of the events on a link; of seconds without one, of what is sold, and of what came to an exchange of the rules 2, nothing
--- is
+-- what is told of the events on a link; of seconds without one, of what amends the plan, and of what came to an exchange of the rules 2,
+-- nothing is
 abbrev pub told_on_link : {D : Type 0} → (D → LiveEvent → D) → (D → Event → List ℕ) → List LiveEvent → D → List ℕ
 told_on_link next text [] d = []
 told_on_link next text (OnLink event ∷ events) d = text d event ++ told_on_link next text events (next d (OnLink event))
 told_on_link next text (WithoutLink rules ∷ events) d = told_on_link next text events (next d (WithoutLink rules))
-told_on_link next text (Sold line ∷ events) d = told_on_link next text events (next d (Sold line))
+told_on_link next text (Amended kind line ∷ events) d = told_on_link next text events (next d (Amended kind line))
 told_on_link next text (HeardByRulesTwo octets ∷ events) d = told_on_link next text events (next d (HeardByRulesTwo octets))

@@ -3,7 +3,7 @@ use Rattle.bx_events.specs.declared.rules.Rules.TheVariants.{Three}
 use Rattle.std.specs.Prelude.{◌≡◌, List, [], ◌++◌, map}
 use Rattle.std.proofs.Common.{sym, ap, ◌∙◌}
 use Rattle.std.proofs.lemmas.List.{append-nil, append_assoc}
-use Rattle.bx_events.specs.Events.{Tick, Receive, LiveEvent, OnLink, WithoutLink, Sold}
+use Rattle.bx_events.specs.Events.{Tick, Receive, LiveEvent, OnLink, WithoutLink, Amended}
 use Rattle.bx_live.specs.Acts.{Act, logged_by}
 use Rattle.bx_live.proofs.Onward.{logged_on}
 use Rattle.bx_link_tests.specs.declared.journal.Mark.{Mark}
@@ -13,7 +13,7 @@ abbrev pub event_in : Mark → LiveEvent
 event_in marks.Tick = OnLink Tick
 event_in (marks.Heard octets) = OnLink (Receive octets.items)
 event_in marks.Down = WithoutLink Three
-event_in (marks.Bought line) = Sold line.items
+event_in (marks.Amended kind line) = Amended kind line.items
 
 abbrev pub events_kept : List Mark → List LiveEvent
 events_kept kept = map event_in kept

@@ -6,7 +6,7 @@ ghost use Rattle.bx_live.specs.Acts.{Logged, logged_by};
 ghost use Rattle.bx_link_tests.specs.Marks.{event_in, events_kept};
 
 use arrayvec::ArrayVec;
-use bx_events::{Event, LiveEvent, Rules};
+use bx_events::{Amendment, Event, LiveEvent, Rules};
 use bx_live::CannotLog;
 use bx_q931::Octets;
 use std::alloc::Global;
@@ -17,7 +17,7 @@ pub enum Mark {
     Tick,
     Heard(Octets),
     Down,
-    Bought(ArrayVec<u8, 120>),
+    Amended(Amendment, ArrayVec<u8, 120>),
 }
 
 /// Lines in memory, so many of them at most.
@@ -34,8 +34,8 @@ fn mark_of(event: LiveEvent<'_>) -> Option<Mark>
     match event {
         LiveEvent::OnLink(Event::Tick) => Some(Mark::Tick),
         LiveEvent::WithoutLink(Rules::Three) => Some(Mark::Down),
-        LiveEvent::Sold(line) => match ArrayVec::try_from(line) {
-            Ok(line) => Some(Mark::Bought(line)),
+        LiveEvent::Amended(kind, line) => match ArrayVec::try_from(line) {
+            Ok(line) => Some(Mark::Amended(kind, line)),
             Err(_) => None,
         },
         LiveEvent::HeardByRulesTwo(_) | LiveEvent::WithoutLink(Rules::Two) => None,

@@ -11,6 +11,8 @@ pub use letters::LetterDisk;
 pub use memory_world::{MemoryWorld, Scene};
 
 #[cfg(test)]
+mod amendments;
+#[cfg(test)]
 mod both_ends;
 #[cfg(test)]
 mod capture_starts;

@@ -66,7 +66,7 @@ fn letter(mark: &Mark) -> u8 {
         Mark::Tick => b't',
         Mark::Heard(_) => b'h',
         Mark::Down => b'd',
-        Mark::Bought(_) => b's',
+        Mark::Amended(_, _) => b'a',
     }
 }
 

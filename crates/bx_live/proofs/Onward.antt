@@ -2,7 +2,7 @@
 use Rattle.std.proofs.Common.{◌≡◌, ◌⊎◌, inl, inr, ℕ, zero, suc, ◌+◌, Some, None, List, [], ◌∷◌, ◌++◌, refl, sym, ap, ◌∙◌, subst, true, false, Bool, Result, Ok, ◌==◌, if◌then◌else◌}
 use Rattle.std.proofs.lemmas.List.{append-nil, append_assoc}
 use Rattle.arrayvec.specs.ArrayVec.{ArrayVec}
-use Rattle.bx_events.specs.Events.{Event, Receive, LiveEvent, OnLink, WithoutLink, Sold, HeardByRulesTwo}
+use Rattle.bx_events.specs.Events.{Event, Receive, LiveEvent, OnLink, WithoutLink, Amended, HeardByRulesTwo}
 use Rattle.bx_frames.specs.declared.fault.LinkFault.{LinkFault}
 use Rattle.bx_frames.specs.declared.frame.Frame.{Frame}
 use Rattle.bx_frames.specs.declared.frame.Frame.TheVariants as frames
@@ -24,7 +24,7 @@ days_on : (xs ys : List LiveEvent) (d : Day) → live_day_after (xs ++ ys) d ≡
 days_on [] ys d = refl
 days_on (OnLink e ∷ xs) ys d = days_on xs ys (exchange_next d e)
 days_on (WithoutLink rules ∷ xs) ys d = days_on xs ys _
-days_on (Sold line ∷ xs) ys d = days_on xs ys d
+days_on (Amended kind line ∷ xs) ys d = days_on xs ys d
 days_on (HeardByRulesTwo octets ∷ xs) ys d = days_on xs ys (live_happens d (HeardByRulesTwo octets)).day
 
 pub logged_on : (xs ys : List Act) → logged_by (xs ++ ys) ≡ logged_by xs ++ logged_by ys

@@ -2,7 +2,7 @@
 use Rattle.bx_events.specs.declared.rules.Rules.TheVariants.{Three}
 use Rattle.std.specs.Prelude.{◌≡◌, ℕ, zero, suc, ◌+◌, ◌-◌, ◌==◌, Bool, true, false, List, [], ◌∷◌, ◌++◌, if◌then◌else◌, Option, Some, None, Result, Ok, Err}
 use Rattle.arrayvec.specs.ArrayVec.{ArrayVec}
-use Rattle.bx_events.specs.Events.{Tick, Receive, LiveEvent, OnLink, WithoutLink, Sold, HeardByRulesTwo}
+use Rattle.bx_events.specs.Events.{Tick, Receive, LiveEvent, OnLink, WithoutLink, Amended, HeardByRulesTwo}
 use Rattle.bx_frames.specs.declared.fault.LinkFault.{LinkFault}
 use Rattle.bx_frames.specs.declared.fault.LinkFault.TheVariants.{WriteFailed, WrongMoment, UnknownKind}
 use Rattle.bx_frames.specs.declared.frame.Frame.{Frame}
@@ -80,7 +80,7 @@ owing d room (message ∷ sent) text = Owing d room true (text ∷ [])
 -- An event that is logged happens. What came by the rules 2 is logged no more, and nothing is written for it.
 abbrev pub happened : Day → ℕ → LiveEvent → Place
 happened d room (WithoutLink rules) = Between (without_link_by rules d)
-happened d room (Sold line) = Between d
+happened d room (Amended kind line) = Between d
 happened d room (HeardByRulesTwo octets) = Between (live_happens d (HeardByRulesTwo octets)).day
 happened d room (OnLink event) = owing (exchange_next d event) room (exchange_sent d event) (exchange_text d event)
 

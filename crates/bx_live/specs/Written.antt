@@ -1,7 +1,7 @@
 -- What may be written to a peer.
 use Rattle.std.specs.Prelude.{◌≡◌, ◌⊎◌, ℕ, ◌&&◌, Bool, true, List, [], ◌∷◌, ◌++◌}
 use Rattle.std.specs.List.{concat}
-use Rattle.bx_events.specs.Events.{Event, Receive, LiveEvent, OnLink, WithoutLink, Sold, HeardByRulesTwo}
+use Rattle.bx_events.specs.Events.{Event, Receive, LiveEvent, OnLink, WithoutLink, Amended, HeardByRulesTwo}
 use Rattle.bx_day.specs.Day.{Day}
 use Rattle.bx_day.specs.Course.{exchange_sent, exchange_text}
 use Rattle.bx_day.specs.Outages.{live_happens, live_day_after}
@@ -41,12 +41,12 @@ pub record IsWrittenFor (d : Day) (acts : List Act) (octets : List ℕ) : Type 0
 
 -- ---- all that is written
 
--- what is written for an event: nothing, in a second without a link, where a booking is sold, or for what came by the rules 2, which no
+-- what is written for an event: nothing, in a second without a link, where the plan is amended, or for what came by the rules 2, which no
 -- run logs
 abbrev pub live_text : Day → LiveEvent → List ℕ
 live_text d (OnLink event) = exchange_text d event
 live_text d (WithoutLink rules) = []
-live_text d (Sold line) = []
+live_text d (Amended kind line) = []
 live_text d (HeardByRulesTwo octets) = []
 
 abbrev pub live_told : List LiveEvent → Day → List ℕ

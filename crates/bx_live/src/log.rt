@@ -17,8 +17,8 @@ pub struct Log<D: Disk> {
     pub disk: Option<D>,
 }
 
-/// Whether an event may be logged: it happens by the rules of this program, what came is no longer than the longest message, and what is
-/// sold is printable and no longer than its line may be.
+/// Whether an event may be logged: it happens by the rules of this program, what came is no longer than the longest message, and what
+/// amends the plan is printable and no longer than its line may be.
 fn is_message(event: LiveEvent<'_>) -> bool
     ensures taken { result ≡ true → IsLoggable (live_event_of event.entry) }
     ensures refused { result ≡ false → IsLoggable (live_event_of event.entry) → ⊥ }
@@ -26,7 +26,7 @@ fn is_message(event: LiveEvent<'_>) -> bool
     match event {
         LiveEvent::OnLink(Event::Receive(octets)) => octets.len() <= MAX_MESSAGE,
         LiveEvent::OnLink(Event::Tick) | LiveEvent::WithoutLink(Rules::Three) => true,
-        LiveEvent::Sold(booking) => booking.len() <= 200 && are_printable(booking),
+        LiveEvent::Amended(_, line) => line.len() <= 200 && are_printable(line),
         // These stand in older journals alone.
         LiveEvent::HeardByRulesTwo(_) | LiveEvent::WithoutLink(Rules::Two) => false,
     }

@@ -27,7 +27,7 @@ impl Follower for Following {
             }
             LoggedEvent::Down(rules) => self.exchange.second_without_link(*rules),
             // The plan that the exchange was opened with has it.
-            LoggedEvent::Sold(_) => {}
+            LoggedEvent::Amended(_, _) => {}
             LoggedEvent::HeardByRulesTwo(octets) => {
                 let _reply = self.exchange.receive_by_rules_two(octets);
             }

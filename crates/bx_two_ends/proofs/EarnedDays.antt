@@ -5,7 +5,7 @@ use Rattle.std.proofs.lemmas.Bool.{false≢true, true≢false, and_from, le-leb,
 use Rattle.bx_channels.specs.Marks.{is_marked}
 use Rattle.bx_base.specs.Bookings.{Row, row_at, is_running, AreBookings, Carries}
 use Rattle.bx_base.specs.Plans.{is_accepted, channel_at}
-use Rattle.bx_events.specs.Events.{LiveEvent, OnLink, WithoutLink, Sold, Tick, Receive, HeardByRulesTwo}
+use Rattle.bx_events.specs.Events.{LiveEvent, OnLink, WithoutLink, Amended, Tick, Receive, HeardByRulesTwo}
 use Rattle.bx_day.specs.Day.{Day, opening, entry_of, entries_from, entry_at, is_live, is_held}
 use Rattle.bx_two_ends.specs.Earning.{LiveSecond, Linked, Unlinked, events_in, events_of, heard_in, second_after, seconds_after, has_link, AreAnswered, AreCleared, IsAlone, HasSeconds, IsCalled, IsTalking, IsLongEnough, IsPunctual, IsCarriedBy, IsDayOfPlan, is_linked}
 use Rattle.bx_day.specs.Law.{standing_at}
@@ -244,7 +244,7 @@ size_after rows [] d h = h
 size_after rows (OnLink Tick ∷ es) d h = size_after rows es (tick d).day (by_cases (nat_le 300000 d.moment) _ _ (λ (s : Sent Day). length s.day.entries ≡ length rows) (λ _. h) (λ _. map_size Up d d.entries ∙ h))
 size_after rows (OnLink (Receive octets) ∷ es) d h = size_after rows es (receive_octets d octets).day (octets_day (λ x. length x.entries ≡ length rows) d octets h (λ s i. set_size d.entries i _ ∙ h) (λ s i op. set_size d.entries i _ ∙ h))
 size_after rows (WithoutLink rules ∷ es) d h = size_after rows es (without_link_by rules d) (by_cases (nat_le 300000 d.moment) _ _ (λ (x : Day). length x.entries ≡ length rows) (λ _. h) (λ _. map_size (Down rules) d d.entries ∙ h))
-size_after rows (Sold booking ∷ es) d h = size_after rows es d h
+size_after rows (Amended kind line ∷ es) d h = size_after rows es d h
 size_after rows (HeardByRulesTwo octets ∷ es) d h = size_after rows es (receive_octets_by Two d octets).day (octets_day_by Two (λ x. length x.entries ≡ length rows) d octets h (λ s i. set_size d.entries i _ ∙ h) (λ s i op. set_size d.entries i _ ∙ h))
 
 pub stays_plan : (rows : List Row) (channels : List Bool) (assigned : List (Option ℕ)) (events : List LiveEvent) → AreBookings rows → Carries rows channels (is_accepted assigned) (channel_at assigned) → IsDayOfPlan rows assigned (live_day_after events (opening rows assigned))

@@ -9,7 +9,7 @@ use Rattle.std.proofs.lemmas.Bool.Decides.{nat_tests}
 use Rattle.arrayvec.specs.ArrayVec.{ArrayVec}
 use Rattle.bx_devices.specs.Watching.{device_of}
 use Rattle.bx_devices.specs.declared.watched.Watched.{Watched}
-use Rattle.bx_events.specs.Events.{Event, Tick, Receive, OnLink, WithoutLink, Sold, HeardByRulesTwo}
+use Rattle.bx_events.specs.Events.{Event, Tick, Receive, OnLink, WithoutLink, Amended, HeardByRulesTwo}
 use Rattle.bx_frames.specs.Courses.{after, told}
 use Rattle.bx_frames.specs.Frames.{found, continue_by, octets_in, length_in, fits, is_message, frame_of, sized_in, frame_kind_of, kind_in, day_frame, frame_in}
 use Rattle.bx_frames.specs.declared.frame.FrameKind.{FrameKind}
@@ -552,7 +552,7 @@ module _ {R W S T D : Type 0} (remaining : R → Option (List ℕ)) (contents : 
     ran (Read most answer ∷ acts) (Ending d) s new t u k chain none well run = absurd run.0
     ran (Took message ∷ acts) (Ending d) s new t u k chain none well run = absurd run.0
     ran acts (Logging d room (WithoutLink rules)) s new t u k chain none well run = absurd well
-    ran acts (Logging d room (Sold line)) s new t u k chain none well run = absurd well
+    ran acts (Logging d room (Amended kind line)) s new t u k chain none well run = absurd well
     ran acts (Logging d room (HeardByRulesTwo octets)) s new t u k chain none well run = absurd well
     ran acts (Receiving d room (text ∷ owed) octets) s new t u k chain none well run = absurd well
     ran acts (Losing d loss) s new t u k chain none well run = absurd well

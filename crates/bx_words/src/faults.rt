@@ -59,11 +59,13 @@ J5 OtherDay           the journal is that of another day: of another date, zone 
 J6 InUse NAME         another program writes the journal
 J7 NotAFile NAME      what is to be the journal is no plain file
 J8 OtherRules         the journal has other rules than 3, by which bx 0.2.0 goes on with a day; of days by the rules 2 it only tells
-J9 BadSale            a line of the journal says that something was sold, and tells no booking
+J9 BadSale            a line of the journal says what became of a booking, and tells no booking, or names no row by its number
 J10 LateSale          the journal says that a booking was sold which had started by then
 J11 TooMany           the journal says that a booking was sold when the day had 16,000
-J12 NotCarried        the journal says that a booking was sold which does not fit beside what was promised
-J13 OtherChannels     the journal says that a booking was sold by which one that had started would have changed its channel
+J12 NotCarried        the journal says that a booking was sold or changed which does not fit beside what was promised
+J13 OtherChannels     the journal says that a booking was sold, given up or changed by which one that had started would have changed its channel
+J14 NoBooking         the journal says that a booking was given up or changed, and the day had none of that row that was promised
+J15 LateChange        the journal says that a booking was given up or changed which could not be so any more
 L1 ReadFailed         the link: a read failed
 L2 WriteFailed        the link: a write failed
 L3 EndedInFrame       the link: it ended inside a frame, or before the end of a turn
