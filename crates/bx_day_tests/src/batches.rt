@@ -189,7 +189,7 @@ fn world_after(
         exchange.tick();
     }
     let channels = ChannelSet::from_numbers(channels).ok()?;
-    let mut world = MarketWorld::new(batch_of(alloc, asked)?);
+    let mut world = MarketWorld::new(batch_of(alloc, asked)?, None);
     run_market(alloc, exchange, &mut world, channels, moment).ok()?;
     Some(world)
 }

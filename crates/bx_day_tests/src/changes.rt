@@ -1,10 +1,11 @@
 //! A day whose plan changes while it runs, beside the day of its last plan.
 
 use crate::sales::hold_the_same;
-use bx_base::ChannelSet;
+use bx_base::{Booking, ChannelSet};
+use bx_channels::Number;
 use bx_day::{Exchange, Outcome};
 use bx_far::Far;
-use bx_sales::{NoChange, cancel, change_end, recolour};
+use bx_sales::{NoChange, cancel, change, recolour};
 use bx_worked_days::{Row, exchange_of, far_end};
 use std::alloc::Global;
 use std::test::Fail;
@@ -25,14 +26,14 @@ static MORNING: [Row; 5] = [
 enum Change {
     /// The booking of this row is given up.
     Cancelled(u16),
-    /// It gets this end.
-    Until(u16, u32),
+    /// It becomes this one.
+    Becomes(u16, Row),
     /// What waits is to move to these channels.
     Left([u8; 2]),
 }
 
 /// What is asked for, in this order, what it is, and what is answered.
-static ASKED: [(&str, Change, Result<(), NoChange>); 11] = [
+static ASKED: [(&str, Change, Result<(), NoChange>); 16] = [
     (
         "a call that is up",
         Change::Cancelled(1),
@@ -52,17 +53,42 @@ static ASKED: [(&str, Change, Result<(), NoChange>); 11] = [
     ),
     (
         "an end that has come",
-        Change::Until(1, CHANGED),
-        Err(NoChange::BadEnd),
+        Change::Becomes(1, (0, CHANGED, 1, false)),
+        Err(NoChange::Late),
+    ),
+    (
+        "another start of a call that is up",
+        Change::Becomes(1, (1, 28, 1, false)),
+        Err(NoChange::Late),
+    ),
+    (
+        "a call that is up is called inward",
+        Change::Becomes(1, (0, 28, 1, true)),
+        Err(NoChange::Late),
     ),
     (
         "a later end of a call that is up",
-        Change::Until(1, 28),
+        Change::Becomes(1, (0, 28, 1, false)),
+        Ok(()),
+    ),
+    (
+        "one that was given up comes back",
+        Change::Becomes(2, (10, 30, 2, false)),
+        Err(NoChange::NoBooking),
+    ),
+    (
+        "one that waits starts now",
+        Change::Becomes(5, (CHANGED, 50, 2, false)),
+        Err(NoChange::Late),
+    ),
+    (
+        "one that waits starts later",
+        Change::Becomes(5, (32, 50, 2, false)),
         Ok(()),
     ),
     (
         "an end beside three others",
-        Change::Until(1, 36),
+        Change::Becomes(1, (0, 36, 1, false)),
         Err(NoChange::NoChannel),
     ),
     (
@@ -70,7 +96,11 @@ static ASKED: [(&str, Change, Result<(), NoChange>); 11] = [
         Change::Left([1, 3]),
         Err(NoChange::NoChannel),
     ),
-    ("an earlier end", Change::Until(4, 30), Ok(())),
+    (
+        "an earlier end",
+        Change::Becomes(4, (25, 30, 1, false)),
+        Ok(()),
+    ),
     (
         "a channel is taken out under a call",
         Change::Left([2, 3]),
@@ -84,7 +114,7 @@ static LAST: [Row; 5] = [
     (10, 30, 0, false),
     (10, 40, 2, false),
     (25, 30, 3, false),
-    (30, 50, 3, false),
+    (32, 50, 3, false),
 ];
 
 static OUTCOMES: [Outcome; 5] = [
@@ -99,7 +129,7 @@ static OUTCOMES: [Outcome; 5] = [
         until: 30,
     },
     Outcome::Carried {
-        from: 31,
+        from: 32,
         until: 50,
     },
 ];
@@ -154,11 +184,17 @@ fn go_alike(days: &mut Beside, seconds: u32) -> bool {
     same
 }
 
-fn ask(alloc: Global, exchange: &mut Exchange, change: Change) -> Option<Result<(), NoChange>> {
+/// A booking of number 1234, as those of the morning are; its channel is not its own.
+pub(crate) fn booking_of(row: &Row) -> Option<Booking> {
+    let booking = Booking::new(row.0, row.1, 5, Number::new(b"1234")?)?;
+    Some(if row.3 { booking.as_inward() } else { booking })
+}
+
+fn ask(alloc: Global, exchange: &mut Exchange, wanted: Change) -> Option<Result<(), NoChange>> {
     let channels = ChannelSet::from_numbers(&[1, 2, 3]).ok()?;
-    Some(match change {
+    Some(match wanted {
         Change::Cancelled(row) => cancel(alloc, exchange, channels, row),
-        Change::Until(row, end) => change_end(alloc, exchange, channels, row, end),
+        Change::Becomes(row, other) => change(alloc, exchange, channels, row, booking_of(&other)?),
         Change::Left(numbers) => {
             recolour(alloc, exchange, ChannelSet::from_numbers(&numbers).ok()?)
         }

@@ -4,6 +4,8 @@
 #[cfg(test)]
 mod agreement;
 #[cfg(test)]
+mod asked_changes;
+#[cfg(test)]
 mod batches;
 #[cfg(test)]
 mod booked_days;

@@ -1,4 +1,4 @@
-//! A world in which one customer asks for one batch of bookings, and no second begins.
+//! A world in which one customer asks for one batch of bookings, and for one change at most behind it, and no second begins.
 
 use arrayvec::ArrayVec;
 use bx_base::Bookings;
@@ -7,27 +7,32 @@ use bx_devices::WriteFailed;
 use bx_events::LiveEvent;
 use bx_frames::{Frame, LinkFault};
 use bx_live::{Begin, CannotLog, Loss, World};
-use bx_market::{Answer, Market, Request};
+use bx_market::{Answer, Batch, Market, Request};
 use bx_q931::Octets;
+use bx_sales::NoChange;
 
-/// What a customer has seen of a batch.
+/// What a customer has seen of a batch, and of a change.
 #[derive(Drop)]
 pub struct MarketWorld {
     batch: Option<Bookings>,
-    /// How many sales were logged, and how many of them were on the disk when the customer was told.
+    change: Option<Request>,
+    /// How many lines that amend the plan were logged, and how many of them were on the disk when the customer was told.
     pub logged: usize,
     pub synced: usize,
     pub told: ArrayVec<Answer, 8>,
+    pub changed: Option<Result<(), NoChange>>,
 }
 
 impl MarketWorld {
-    /// A world whose customer asks for these.
-    pub fn new(batch: Bookings) -> Self {
+    /// A world whose customer asks for these, and then for a change, where there is one.
+    pub fn new(batch: Bookings, change: Option<Request>) -> Self {
         MarketWorld {
             batch: Some(batch),
+            change,
             logged: 0,
             synced: 0,
             told: ArrayVec::new(),
+            changed: None,
         }
     }
 }
@@ -42,7 +47,7 @@ impl World for MarketWorld {
     fn drop_peer(&mut self, _loss: Loss) {}
 
     fn log(&mut self, event: LiveEvent<'_>) -> Result<(), CannotLog> {
-        if let LiveEvent::Sold(_) = event {
+        if let LiveEvent::Amended(_, _) = event {
             self.logged = self.logged.saturating_add(1);
         }
         Ok(())
@@ -80,8 +85,13 @@ impl Market for MarketWorld {
     ghost dealt = { λ s deals t. Unit {0} };
 
     fn ask(&mut self, _exchange: &Exchange) -> Option<Request> {
-        let batch = self.batch.take()?;
-        Some(Request { tag: None, batch })
+        match self.batch.take() {
+            Some(bookings) => Some(Request::Sell(Batch {
+                tag: None,
+                bookings,
+            })),
+            None => self.change.take(),
+        }
     }
 
     fn answer(&mut self, answers: &[Answer]) {
@@ -90,6 +100,10 @@ impl Market for MarketWorld {
                 self.told.push(*answer);
             }
         }
+    }
+
+    fn answer_change(&mut self, answer: Result<(), NoChange>) {
+        self.changed = Some(answer);
     }
 
     ghost dealt_by = { λ s t acts p. tt };

@@ -3,7 +3,8 @@ use Rattle.std.proofs.Common.{◌≡◌, ◌⊎◌, inl, inr, ℕ, suc, ◌<◌,
 use Rattle.std.proofs.lemmas.Bool.{cases_lt}
 use Rattle.bx_base.specs.Bookings.{Row, row_at}
 use Rattle.bx_day.specs.Day.{Day}
-use Rattle.bx_events.specs.Events.{Sold}
+use Rattle.bx_events.specs.Events.{Amended}
+use Rattle.bx_events.specs.declared.amendment.Amendment.TheVariants.{Sold}
 use Rattle.bx_live.specs.declared.world.CannotLog.{CannotLog}
 use Rattle.bx_live.specs.Acts.{Act, Logged}
 use Rattle.bx_live.specs.Runs.{Over}
@@ -53,15 +54,15 @@ none_sold_of (row ∷ batch) (Refused why ∷ answers) none = none_sold_of batch
 -- ---- one booking
 
 module _ {W : Type 0} {did : W → List Act → W → Type 0} {dealt : W → List Deal → W → Type 0} (channels : List Bool) (by : (v w : W) (acts : List Act) → did v acts w → dealt v (all_ran acts) w) (u v : W) (shown d d1 : Day) (tag : Option Tag) (batch sold : List Row) where
-  pub sold_is_logged : (row : Row) (line : List ℕ) → did u (Logged (Sold line) true ∷ []) v → IsReadBack tag (booking_text row) line → booking_on (booking_text row) ≡ Some row → IsSold channels row d d1
+  pub sold_is_logged : (row : Row) (line : List ℕ) → did u (Logged (Amended Sold line) true ∷ []) v → IsReadBack tag (booking_text row) line → booking_on (booking_text row) ≡ Some row → IsSold channels row d d1
       → Asks dealt channels u v (Filing shown d tag batch sold) (Filing shown d1 tag batch (sold ++ row ∷ []))
   sold_is_logged row line done (text, under) again is =
       let same : row ≡ row_behind row_on line = sym (ap row_on text ∙ ap row_or_none again) in
-      one_inside channels by (Filing shown d tag batch sold) (Filing shown d1 tag batch (sold ++ row ∷ [])) (Logged (Sold line) true) done
+      one_inside channels by (Filing shown d tag batch sold) (Filing shown d1 tag batch (sold ++ row ∷ [])) (Logged (Amended Sold line) true) done
       (d1, subst (λ (r : Row). IsSold channels r d d1) same is, under, ap (λ (r : Row). Filing shown d1 tag batch (sold ++ r ∷ [])) same) refl
 
-  pub not_logged : (line : List ℕ) → did u (Logged (Sold line) false ∷ []) v → Asks dealt channels u v (Filing shown d tag batch sold) (Within (Over d))
-  not_logged line done = one_inside channels by (Filing shown d tag batch sold) (Within (Over d)) (Logged (Sold line) false) done refl refl
+  pub not_logged : (line : List ℕ) → did u (Logged (Amended Sold line) false ∷ []) v → Asks dealt channels u v (Filing shown d tag batch sold) (Within (Over d))
+  not_logged line done = one_inside channels by (Filing shown d tag batch sold) (Within (Over d)) (Logged (Amended Sold line) false) done refl refl
 
 module _ {W : Type 0} {did : W → List Act → W → Type 0} {dealt : W → List Deal → W → Type 0} (channels : List Bool) (by : (v w : W) (acts : List Act) → did v acts w → dealt v (all_ran acts) w) (none : (w : W) → did w [] w) where
   pub not_sold : (u : W) (shown d d1 : Day) (tag : Option Tag) (batch sold : List Row) → d1 ≡ d → Asks dealt channels u u (Filing shown d tag batch sold) (Filing shown d1 tag batch sold) × (d1 ≡ d)

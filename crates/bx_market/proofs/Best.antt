@@ -76,14 +76,15 @@ module _ (channels : List Bool) (d : Day) (batch : List Row) where
     best_of (inr told) = of_memory told
 
 of_best : (channels : List Bool) (deals : List Deal) (shown : Day) (tag : Option Tag) (batch sold : List Row) (answers : List Answer) → AreSold deals shown tag batch sold → AreTold channels shown batch answers → IsToldOfBest channels deals answers
-of_best channels deals shown tag batch sold answers s told = record { shown = shown; request = record { tag = tag; batch = batch }; before = s.before; since = s.since; are = s.are; told = told; best = λ fine. best_of channels shown batch answers fine told }
+of_best channels deals shown tag batch sold answers s told = record { shown = shown; batch = record { tag = tag; bookings = batch }; before = s.before; since = s.since; are = s.are; told = told; best = λ fine. best_of channels shown batch answers fine told }
 
-told_at : (channels : List Bool) (deals : List Deal) (from to : Stand) (answers : List Answer) → Stands deals from → GoesByDeal channels from (Answered answers) to → IsToldOfBest channels deals answers
+told_at : (channels : List Bool) (deals : List Deal) (from to : Stand) (answers : List Answer) → Stands channels deals from → GoesByDeal channels from (Answered answers) to → IsToldOfBest channels deals answers
 told_at channels deals (Within p) to answers s e = absurd e
 told_at channels deals (Filing shown d tag batch sold) to answers s (none, are, told, e) = of_best channels deals shown tag batch sold answers s told
 told_at channels deals (Telling shown d tag batch sold) to answers s (are, told, e) = of_best channels deals shown tag batch sold answers s.sold_since told
+told_at channels deals from to answers s e = absurd e
 
-pub told_of_best : (channels : List Bool) (done before following : List Deal) (answers : List Answer) (from to : Stand) → Stands done from → IsMarketRun channels from (before ++ Answered answers ∷ following) to → IsToldOfBest channels (done ++ before) answers
+pub told_of_best : (channels : List Bool) (done before following : List Deal) (answers : List Answer) (from to : Stand) → Stands channels done from → IsMarketRun channels from (before ++ Answered answers ∷ following) to → IsToldOfBest channels (done ++ before) answers
 told_of_best channels done [] following answers from to s (mid, goes, rest) = subst (λ (l : List Deal). IsToldOfBest channels l answers) (sym (append-nil done)) (told_at channels done from mid answers s goes)
 told_of_best channels done (deal ∷ before) following answers from to s (mid, goes, rest) =
     subst (λ (l : List Deal). IsToldOfBest channels l answers) (append_assoc done (deal ∷ []) before)

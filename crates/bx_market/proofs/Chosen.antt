@@ -17,11 +17,11 @@ use Rattle.bx_planner.specs.Musts.{IsTooManyMust}
 use Rattle.bx_planner.specs.Tight.{runs_at}
 use Rattle.bx_planner.proofs.EnoughRoom.{carried_from_room}
 use Rattle.bx_sales.specs.Selling.{rows_of, marks_of}
-use Rattle.bx_market.specs.Choices.{eligible_marks, IsChoice, IsBestBatch}
-use Rattle.bx_market.specs.Choosing.{promised, free_row, free_rows, chosen_marks}
+use Rattle.bx_market.specs.Choices.{promised, eligible_marks, IsChoice, IsBestBatch}
+use Rattle.bx_market.specs.Choosing.{free_row, free_rows, chosen_marks}
 use Rattle.bx_market.proofs.Totals.{all_marks, pays_more, total, marked, all_of, pays, runs, marked-total, total-append, marked-append, running_marked, running_total}
 use Rattle.bx_market.proofs.Eligible.{all_free_total, eligible_count, chosen_count, chosen_eligible, chosen_total, picked, picked_total, free_rows_free}
-use Rattle.bx_market.proofs.Promised.{promised_total, promised_must, must_in}
+use Rattle.bx_market.proofs.AllPromised.{promised_total, promised_must, must_in}
 
 pub all_in : (rows : List Row) (i : ℕ) → i < length rows → is_in (all_of rows) i ≡ true
 all_in [] i lt = absurd (omega (arith, lt))

@@ -7,7 +7,7 @@ mod WrittenEvents
 pub mod LastPlan
 mod Totals
 mod Eligible
-mod Promised
+mod AllPromised
 mod Chosen
 mod Settled
 mod Best

@@ -11,7 +11,7 @@ use Rattle.bx_day.specs.declared.entry.Entry.{Entry}
 use Rattle.bx_live.specs.declared.world.CannotLog.{CannotLog}
 use Rattle.bx_planner.proofs.AllMusts.{short_sum}
 use Rattle.bx_sales.specs.Selling.{rows_of, marks_of, rows_with, marks_with, IsSold}
-use Rattle.bx_sales.specs.Sold.{Bought, GoesThrough}
+use Rattle.bx_sales.specs.Sold.{AreSoldInTurn}
 use Rattle.bx_sales.proofs.OneMore.{rows_sold_with, marks_sold_with}
 use Rattle.bx_sales.specs.declared.selling.NoSale.TheVariants.{Late, Full, NoChannel, OtherChannels, Memory}
 use Rattle.bx_market.specs.declared.market.Answer.{Answer}
@@ -60,11 +60,11 @@ pub record AreSettled (channels : List Bool) (d : Day) (batch : List Row) (chose
   pub rows : rows_of d1 ≡ rows_of d ++ sold_of batch answers
   pub marks : marks_of d1 ≡ marks_of d ++ all_of (sold_of batch answers)
   pub moment : d1.moment ≡ d.moment
-  pub went : GoesThrough channels (map Bought (sold_of batch answers)) d d1
+  pub went : AreSoldInTurn channels (sold_of batch answers) d d1
   pub each : (i : ℕ) → i < length answers → IsToldOf channels d batch chosen i (is_in chosen i) (answer_at answers i)
 
 -- one sale after others
-one_more_sold : (channels : List Bool) (rows : List Row) (row : Row) (d d1 d2 : Day) → GoesThrough channels (map Bought rows) d d1 → IsSold channels row d1 d2 → GoesThrough channels (map Bought (rows ++ row ∷ [])) d d2
+one_more_sold : (channels : List Bool) (rows : List Row) (row : Row) (d d1 d2 : Day) → AreSoldInTurn channels rows d d1 → IsSold channels row d1 d2 → AreSoldInTurn channels (rows ++ row ∷ []) d d2
 one_more_sold channels [] row d d1 d2 same s = (d2, subst (λ (x : Day). IsSold channels row x d2) same s, refl)
 one_more_sold channels (r ∷ rows) row d d1 d2 (next, first, rest) s = (next, first, one_more_sold channels rows row next d1 d2 rest s)
 
@@ -75,7 +75,7 @@ none_settled channels d batch chosen answers none =
       rows = sym (ap (λ (rs : List Row). rows_of d ++ rs) sold ∙ append-nil (rows_of d));
       marks = sym (ap (λ (rs : List Row). marks_of d ++ all_of rs) sold ∙ append-nil (marks_of d));
       moment = refl;
-      went = subst (λ (rs : List Row). GoesThrough channels (map Bought rs) d d) (sym sold) refl;
+      went = subst (λ (rs : List Row). AreSoldInTurn channels rs d d) (sym sold) refl;
       each = λ i lt. let n = ap length none in absurd (omega (arith, lt, n));
     }
 
@@ -182,11 +182,11 @@ module _ (channels : List Bool) (d : Day) (batch : List Row) (chosen : List Bool
         marks_sold_with channels (row_at batch i) d1 d2 s ∙ (ap (λ (ms : List Bool). ms ++ true ∷ []) settled.marks ∙ (append_assoc (marks_of d) (all_of sold) (true ∷ []) ∙ ap (λ (ms : List Bool). marks_of d ++ ms) (sym (ap all_of more ∙ map-append (λ (row : Row). true) sold (row_at batch i ∷ [])))))
     marks_next d2 (Refused why) s = ap marks_of s ∙ (settled.marks ∙ ap (λ (rs : List Row). marks_of d ++ all_of rs) (sym (sold_same batch answers why)))
 
-    went_next : (d2 : Day) (a : Answer) → IsFollowing d2 a → GoesThrough channels (map Bought (sold_of batch (answers ++ a ∷ []))) d d2
+    went_next : (d2 : Day) (a : Answer) → IsFollowing d2 a → AreSoldInTurn channels (sold_of batch (answers ++ a ∷ [])) d d2
     went_next d2 Accepted s =
         let more = sold_more batch answers (omega (arith, at, lt)) ∙ ap (λ (k : ℕ). sold ++ row_at batch k ∷ []) at in
-        subst (λ (rs : List Row). GoesThrough channels (map Bought rs) d d2) (sym more) (one_more_sold channels sold (row_at batch i) d d1 d2 settled.went s)
-    went_next d2 (Refused why) s = subst (λ (x : Day). GoesThrough channels (map Bought (sold_of batch (answers ++ Refused why ∷ []))) d x) (sym s) (subst (λ (rs : List Row). GoesThrough channels (map Bought rs) d d1) (sym (sold_same batch answers why)) settled.went)
+        subst (λ (rs : List Row). AreSoldInTurn channels rs d d2) (sym more) (one_more_sold channels sold (row_at batch i) d d1 d2 settled.went s)
+    went_next d2 (Refused why) s = subst (λ (x : Day). AreSoldInTurn channels (sold_of batch (answers ++ Refused why ∷ [])) d x) (sym s) (subst (λ (rs : List Row). AreSoldInTurn channels rs d d1) (sym (sold_same batch answers why)) settled.went)
 
     pub settled_next : (d2 : Day) (a : Answer) → d2.moment ≡ d1.moment → IsToldOf channels d batch chosen i (is_in chosen i) a → IsFollowing d2 a → AreSettled channels d batch chosen d2 (answers ++ a ∷ [])
     settled_next d2 a moment told following = record {

@@ -1,9 +1,11 @@
 -- The day of a run went through just the logged events and sales.
-use Rattle.std.proofs.Common.{◌≡◌, ℕ, zero, suc, ◌+◌, ◌==◌, Bool, true, false, List, [], ◌∷◌, ◌++◌, Some, None, Result, Ok, if◌then◌else◌, refl, sym, ap, ◌∙◌, subst}
+use Rattle.std.proofs.Common.{◌≡◌, ℕ, zero, suc, ◌+◌, ◌==◌, Bool, true, false, List, [], ◌∷◌, ◌++◌, Some, None, Result, Ok, Err, if◌then◌else◌, refl, sym, ap, ◌∙◌, subst}
 use Rattle.arrayvec.specs.ArrayVec.{ArrayVec}
 use Rattle.bx_day.specs.Day.{Day}
 use Rattle.bx_day.specs.Course.{exchange_next, exchange_sent, exchange_text}
-use Rattle.bx_events.specs.Events.{Receive, LiveEvent, OnLink, Sold}
+use Rattle.bx_events.specs.Events.{Receive, LiveEvent, OnLink, Amended}
+use Rattle.bx_events.specs.declared.amendment.Amendment.{Amendment}
+use Rattle.bx_events.specs.declared.amendment.Amendment.TheVariants.{Sold}
 use Rattle.bx_frames.specs.declared.fault.LinkFault.{LinkFault}
 use Rattle.bx_frames.specs.declared.frame.Frame.{Frame}
 use Rattle.bx_frames.specs.declared.frame.Frame.TheVariants as frames
@@ -18,14 +20,15 @@ use Rattle.bx_live.proofs.Onward.{logged_on}
 use Rattle.bx_planfile.specs.OneBooking.{row_on}
 use Rattle.bx_sales.specs.Journal.{RunsThrough}
 use Rattle.bx_sales.proofs.Journal.{through_more}
-use Rattle.bx_market.specs.Deals.{Deal, Ran, Asked, Answered, acts_of}
-use Rattle.bx_market.specs.Stands.{Stand, Within, Filing, Telling, asked_for, GoesByDeal, IsMarketRun, stand_day}
+use Rattle.bx_market.specs.declared.market.Request.TheVariants.{Sell, Cancel, Change}
+use Rattle.bx_market.specs.Deals.{Deal, Ran, Asked, Answered, ToldOfChange, acts_of}
+use Rattle.bx_market.specs.Stands.{Stand, Within, Filing, Telling, Changing, Noted, Kept, asked_for, GoesByDeal, IsMarketRun, stand_day}
 use Rattle.bx_market.proofs.Steps.{acts_more}
 
--- ---- the run by the clock sells nothing
+-- ---- the run by the clock amends nothing
 
 abbrev pub IsLinkPlace : Place → Type 0
-IsLinkPlace (Logging d room (Sold line)) = ⊥
+IsLinkPlace (Logging d room (Amended kind line)) = ⊥
 IsLinkPlace _ = Unit {0}
 
 abbrev Links : Place → Act → Type 0
@@ -68,11 +71,11 @@ links = by_answers Links begun_links logged_links
     (λ d room owed. ((λ message. tt), tt)) (λ d room texts. (tt, tt)) (λ d room text texts. (writing_links d room texts, tt))
     heard_links (λ d. (tt, λ fault. tt)) (λ d. (tt, tt)) (λ d. (tt, tt)) (λ d. tt)
 
-pub no_sale : (p : Place) (line : List ℕ) (done : Bool) → IsLinkPlace p → IsDue p (Logged (Sold line) done) → ⊥
-no_sale (Logging d room event) line done link due = subst (λ (e : LiveEvent). IsLinkPlace (Logging d room e)) (sym due) link
-no_sale (Receiving d room owed octets) line done link due = cc
-no_sale (Owing d room false (text ∷ texts)) line done link due = due
-no_sale p line done link due = due
+pub none_amends : (p : Place) (kind : Amendment) (line : List ℕ) (done : Bool) → IsLinkPlace p → IsDue p (Logged (Amended kind line) done) → ⊥
+none_amends (Logging d room event) kind line done link due = subst (λ (e : LiveEvent). IsLinkPlace (Logging d room e)) (sym due) link
+none_amends (Receiving d room owed octets) kind line done link due = cc
+none_amends (Owing d room false (text ∷ texts)) kind line done link due = due
+none_amends p kind line done link due = due
 
 -- ---- one deal
 
@@ -82,7 +85,7 @@ module _ (channels : List Bool) where
 
   act_through : (p : Place) (act : Act) → IsLinkPlace p → IsDue p act → Through (logged_by (act ∷ [])) (day_at p) (day_at (next p act))
   act_through p (Logged event false) link due = step_day p (Logged event false) due
-  act_through p (Logged (Sold line) true) link due = absurd (no_sale p line true link due)
+  act_through p (Logged (Amended kind line) true) link due = absurd (none_amends p kind line true link due)
   act_through p act link due = step_day p act due
 
   abbrev pub IsLinkStand : Stand → Type 0
@@ -105,13 +108,21 @@ module _ (channels : List Bool) where
     through = subst (λ (s : Stand). Through (logged_by (act ∷ [])) (day_at p) (stand_day s)) (sym e) (act_through p act link due);
   }
   keeps (Within (Between d)) to (Asked shown None) link (at, e) = quiet _ to (Within (Between d)) _ refl e tt refl
-  keeps (Within (Between d)) to (Asked shown (Some request)) link (at, e) = quiet _ to (asked_for d request) _ refl e tt refl
-  keeps (Filing shown d tag batch sold) to (Ran (Logged (Sold line) true)) link (d1, is, under, e) = record { links = subst IsLinkStand (sym e) tt; through = (d1, is, ap stand_day e) }
-  keeps (Filing shown d tag batch sold) to (Ran (Logged (Sold line) false)) link e = quiet _ to (Within (Over d)) _ refl e tt refl
+  keeps (Within (Between d)) to (Asked shown (Some (Sell batch))) link (at, e) = quiet _ to (asked_for d (Sell batch)) _ refl e tt refl
+  keeps (Within (Between d)) to (Asked shown (Some (Cancel row))) link (at, e) = quiet _ to (asked_for d (Cancel row)) _ refl e tt refl
+  keeps (Within (Between d)) to (Asked shown (Some (Change row booking))) link (at, e) = quiet _ to (asked_for d (Change row booking)) _ refl e tt refl
+  keeps (Filing shown d tag batch sold) to (Ran (Logged (Amended Sold line) true)) link (d1, is, under, e) = record { links = subst IsLinkStand (sym e) tt; through = (d1, is, ap stand_day e) }
+  keeps (Filing shown d tag batch sold) to (Ran (Logged (Amended Sold line) false)) link e = quiet _ to (Within (Over d)) _ refl e tt refl
   keeps (Filing shown d tag batch sold) to (Ran (Synced true)) link e = quiet _ to (Telling shown d tag batch sold) _ refl e tt refl
   keeps (Filing shown d tag batch sold) to (Ran (Synced false)) link e = quiet _ to (Within (Over d)) _ refl e tt refl
   keeps (Filing shown d tag batch sold) to (Answered answers) link (none, are, told, e) = quiet _ to (Within (Between d)) _ refl e tt refl
   keeps (Telling shown d tag batch sold) to (Answered answers) link (are, told, e) = quiet _ to (Within (Between d)) _ refl e tt refl
+  keeps (Changing shown request) to (Ran (Logged (Amended kind line) true)) link (d, is, tells, e) = record { links = subst IsLinkStand (sym e) tt; through = (d, is, ap stand_day e) }
+  keeps (Changing shown request) to (Ran (Logged (Amended kind line) false)) link e = quiet _ to (Within (Over shown)) _ refl e tt refl
+  keeps (Changing shown request) to (ToldOfChange (Err why)) link (not, e) = quiet _ to (Within (Between shown)) _ refl e tt refl
+  keeps (Noted shown d request) to (Ran (Synced true)) link e = quiet _ to (Kept shown d request) _ refl e tt refl
+  keeps (Noted shown d request) to (Ran (Synced false)) link e = quiet _ to (Within (Over d)) _ refl e tt refl
+  keeps (Kept shown d request) to (ToldOfChange (Ok done)) link e = quiet _ to (Within (Between d)) _ refl e tt refl
   keeps from to deal link e = absurd e
 
   -- ---- all deals

@@ -1,9 +1,10 @@
 -- Whatever is written in a run with sales belongs to an event that is logged.
-use Rattle.std.proofs.Common.{◌≡◌, ◌⊎◌, inl, inr, Bool, true, false, ℕ, List, [], ◌∷◌, ◌++◌, Some, None, refl, sym, ap, ◌∙◌, subst, append_assoc}
+use Rattle.std.proofs.Common.{◌≡◌, ◌⊎◌, inl, inr, Bool, true, false, ℕ, List, [], ◌∷◌, ◌++◌, Some, None, Ok, Err, refl, sym, ap, ◌∙◌, subst, append_assoc}
 use Rattle.std.proofs.lemmas.List.{append-nil}
 use Rattle.bx_day.specs.Day.{Day}
 use Rattle.bx_day.specs.Outages.{live_happens, live_day_after}
-use Rattle.bx_events.specs.Events.{LiveEvent, OnLink, Sold}
+use Rattle.bx_events.specs.Events.{LiveEvent, OnLink, Amended}
+use Rattle.bx_events.specs.declared.amendment.Amendment.TheVariants.{Sold}
 use Rattle.bx_live.specs.Acts.{Act, Logged, Synced, Wrote, logged_by}
 use Rattle.bx_live.specs.Runs.{Place, Between, Over, IsDue, IsRun, next}
 use Rattle.bx_live.specs.Written.{Filed, filed, filed_by, IsWrittenFor}
@@ -13,38 +14,39 @@ use Rattle.bx_planfile.specs.OneBooking.{row_on}
 use Rattle.bx_sales.specs.Journal.{RunsThrough}
 use Rattle.bx_sales.proofs.Journal.{through_more}
 use Rattle.bx_sales.specs.Tags.{row_behind}
-use Rattle.bx_market.specs.Deals.{Deal, Ran, Asked, Answered, acts_of}
-use Rattle.bx_market.specs.Stands.{Stand, Within, Filing, Telling, asked_for, GoesByDeal, IsMarketRun, stand_day}
+use Rattle.bx_market.specs.declared.market.Request.TheVariants.{Sell, Cancel, Change}
+use Rattle.bx_market.specs.Deals.{Deal, Ran, Asked, Answered, ToldOfChange, acts_of}
+use Rattle.bx_market.specs.Stands.{Stand, Within, Filing, Telling, Changing, Noted, Kept, asked_for, GoesByDeal, IsMarketRun, stand_day}
 use Rattle.bx_market.specs.Told.{IsWrittenForEvent}
 use Rattle.bx_market.proofs.Steps.{acts_more}
-use Rattle.bx_market.proofs.Through.{IsLinkPlace, IsLinkStand, Through, keeps, links, no_sale}
+use Rattle.bx_market.proofs.Through.{IsLinkPlace, IsLinkStand, Through, keeps, links, none_amends}
 
--- ---- the run by the clock logs no sale
+-- ---- the run by the clock logs nothing that amends the plan
 
-abbrev AreUnsold : List LiveEvent → Type 0
-AreUnsold [] = Unit {0}
-AreUnsold (Sold line ∷ events) = ⊥
-AreUnsold (x ∷ events) = AreUnsold events
+abbrev AreUnamended : List LiveEvent → Type 0
+AreUnamended [] = Unit {0}
+AreUnamended (Amended kind line ∷ events) = ⊥
+AreUnamended (x ∷ events) = AreUnamended events
 
-one_unsold : (p : Place) (act : Act) (acts : List Act) → IsLinkPlace p → IsDue p act → AreUnsold (logged_by acts) → AreUnsold (logged_by (act ∷ acts))
-one_unsold p (Logged event false) acts link due rest = rest
-one_unsold p (Logged (Sold line) true) acts link due rest = no_sale p line true link due
-one_unsold p act acts link due rest = rest
+one_unamended : (p : Place) (act : Act) (acts : List Act) → IsLinkPlace p → IsDue p act → AreUnamended (logged_by acts) → AreUnamended (logged_by (act ∷ acts))
+one_unamended p (Logged event false) acts link due rest = rest
+one_unamended p (Logged (Amended kind line) true) acts link due rest = none_amends p kind line true link due
+one_unamended p act acts link due rest = rest
 
-all_unsold : (p q : Place) (acts : List Act) → IsLinkPlace p → IsRun p acts q → AreUnsold (logged_by acts)
-all_unsold p q [] link e = tt
-all_unsold p q (act ∷ acts) link (due, goes) = one_unsold p act acts link due (all_unsold (next p act) q acts (links p act due) goes)
+all_unamended : (p q : Place) (acts : List Act) → IsLinkPlace p → IsRun p acts q → AreUnamended (logged_by acts)
+all_unamended p q [] link e = tt
+all_unamended p q (act ∷ acts) link (due, goes) = one_unamended p act acts link due (all_unamended (next p act) q acts (links p act due) goes)
 
-first_unsold : (xs ys : List LiveEvent) → AreUnsold (xs ++ ys) → AreUnsold xs
-first_unsold [] ys are = tt
-first_unsold (Sold line ∷ xs) ys are = are
-first_unsold (x ∷ xs) ys are = first_unsold xs ys are
+first_unamended : (xs ys : List LiveEvent) → AreUnamended (xs ++ ys) → AreUnamended xs
+first_unamended [] ys are = tt
+first_unamended (Amended kind line ∷ xs) ys are = are
+first_unamended (x ∷ xs) ys are = first_unamended xs ys are
 
--- so it goes through them as a day without sales does
-unsold_through : (channels : List Bool) (events : List LiveEvent) (d : Day) → AreUnsold events → RunsThrough channels row_on events d (live_day_after events d)
-unsold_through channels [] d are = refl
-unsold_through channels (Sold line ∷ events) d are = absurd are
-unsold_through channels (x ∷ events) d are = unsold_through channels events (live_happens d x).day are
+-- so it goes through them as a day does whose plan stays
+unamended_through : (channels : List Bool) (events : List LiveEvent) (d : Day) → AreUnamended events → RunsThrough channels row_on events d (live_day_after events d)
+unamended_through channels [] d are = refl
+unamended_through channels (Amended kind line ∷ events) d are = absurd are
+unamended_through channels (x ∷ events) d are = unamended_through channels events (live_happens d x).day are
 
 -- ---- what is on the disk after some acts, whatever was logged before them
 
@@ -119,13 +121,21 @@ module _ (channels : List Bool) (d : Day) where
   since_there : (acts : List Act) (from to : Stand) (deal : Deal) → StandsThere acts from → GoesByDeal channels from deal to → HasRunSince (acts ++ acts_of (deal ∷ [])) to
   since_there acts (Within p) to (Ran act) s (due, e) = named _ to _ e (one_act acts p act s.since due)
   since_there acts (Within (Between day)) to (Asked shown None) s (at, e) = named _ to (Within (Between day)) e (same_acts acts (Within (Between day)) s.since)
-  since_there acts (Within (Between day)) to (Asked shown (Some request)) s (at, e) = named _ to (asked_for day request) e tt
-  since_there acts (Filing shown day tag batch sold) to (Ran (Logged (Sold line) true)) s (d1, is, under, e) = named _ to (Filing shown d1 tag batch (sold ++ row_behind row_on line ∷ [])) e tt
-  since_there acts (Filing shown day tag batch sold) to (Ran (Logged (Sold line) false)) s e = named _ to (Within (Over day)) e (inr (day, refl))
+  since_there acts (Within (Between day)) to (Asked shown (Some (Sell batch))) s (at, e) = named _ to (asked_for day (Sell batch)) e tt
+  since_there acts (Within (Between day)) to (Asked shown (Some (Cancel row))) s (at, e) = named _ to (asked_for day (Cancel row)) e tt
+  since_there acts (Within (Between day)) to (Asked shown (Some (Change row booking))) s (at, e) = named _ to (asked_for day (Change row booking)) e tt
+  since_there acts (Filing shown day tag batch sold) to (Ran (Logged (Amended Sold line) true)) s (d1, is, under, e) = named _ to (Filing shown d1 tag batch (sold ++ row_behind row_on line ∷ [])) e tt
+  since_there acts (Filing shown day tag batch sold) to (Ran (Logged (Amended Sold line) false)) s e = named _ to (Within (Over day)) e (inr (day, refl))
   since_there acts (Filing shown day tag batch sold) to (Ran (Synced true)) s e = named _ to (Telling shown day tag batch sold) e tt
   since_there acts (Filing shown day tag batch sold) to (Ran (Synced false)) s e = named _ to (Within (Over day)) e (inr (day, refl))
   since_there acts (Filing shown day tag batch sold) to (Answered answers) s (none, are, told, e) = named _ to (Within (Between day)) e (inl (begins_anew acts day s.through))
   since_there acts (Telling shown day tag batch sold) to (Answered answers) s (are, told, e) = named _ to (Within (Between day)) e (inl (begins_anew acts day s.through))
+  since_there acts (Changing shown request) to (Ran (Logged (Amended kind line) true)) s (day, is, tells, e) = named _ to (Noted shown day request) e tt
+  since_there acts (Changing shown request) to (Ran (Logged (Amended kind line) false)) s e = named _ to (Within (Over shown)) e (inr (shown, refl))
+  since_there acts (Changing shown request) to (ToldOfChange (Err why)) s (not, e) = named _ to (Within (Between shown)) e (inl (begins_anew acts shown s.through))
+  since_there acts (Noted shown day request) to (Ran (Synced true)) s e = named _ to (Kept shown day request) e tt
+  since_there acts (Noted shown day request) to (Ran (Synced false)) s e = named _ to (Within (Over day)) e (inr (day, refl))
+  since_there acts (Kept shown day request) to (ToldOfChange (Ok done)) s e = named _ to (Within (Between day)) e (inl (begins_anew acts day s.through))
   since_there acts from to deal s e = absurd e
 
   stands_there : (acts : List Act) (from to : Stand) (deal : Deal) → StandsThere acts from → GoesByDeal channels from deal to → StandsThere (acts ++ acts_of (deal ∷ [])) to
@@ -143,14 +153,14 @@ module _ (channels : List Bool) (d : Day) where
   written_since : (acts : List Act) (p : Place) (octets : List ℕ) (s : IsRunSince acts p) → IsWrittenFor s.start s.since octets → IsWrittenForEvent channels d acts octets
   written_since acts p octets s w =
       let events : logged_by acts ≡ logged_by s.before ++ logged_by s.since = ap logged_by s.are ∙ logged_on s.before s.since in
-      let unsold : AreUnsold w.earlier = first_unsold w.earlier (OnLink w.event ∷ w.later) (subst AreUnsold w.on_log (all_unsold (Between s.start) p s.since tt s.goes)) in
+      let unamended : AreUnamended w.earlier = first_unamended w.earlier (OnLink w.event ∷ w.later) (subst AreUnamended w.on_log (all_unamended (Between s.start) p s.since tt s.goes)) in
       record {
         earlier = logged_by s.before ++ w.earlier;
         event = w.event;
         later = w.later;
         logged = events ∙ (ap (λ (es : List LiveEvent). logged_by s.before ++ es) w.on_log ∙ sym (append_assoc (logged_by s.before) w.earlier (OnLink w.event ∷ w.later)));
         day = live_day_after w.earlier s.start;
-        through = through_more channels row_on (logged_by s.before) w.earlier d s.start (live_day_after w.earlier s.start) s.through (unsold_through channels w.earlier s.start unsold);
+        through = through_more channels row_on (logged_by s.before) w.earlier d s.start (live_day_after w.earlier s.start) s.through (unamended_through channels w.earlier s.start unamended);
         heard = w.heard;
         text = w.text;
         synced = on_disk w.synced;

@@ -1,10 +1,10 @@
 -- What the customer of a batch is told of each of its bookings.
-use Rattle.std.specs.Prelude.{◌≡◌, ◌⊎◌, ◌≤◌, ◌<◌, ℕ, Bool, true, false, List, map, length, slice_index_or}
+use Rattle.std.specs.Prelude.{◌≡◌, ◌⊎◌, ◌≤◌, ◌<◌, ℕ, Bool, true, false, List, length, slice_index_or}
 use Rattle.bx_base.specs.Bookings.{Row, row_at}
 use Rattle.bx_colour.specs.Colouring.{is_in}
 use Rattle.bx_day.specs.Day.{Day}
 use Rattle.bx_sales.specs.Selling.{IsOtherPlan}
-use Rattle.bx_sales.specs.Sold.{Bought, GoesThrough}
+use Rattle.bx_sales.specs.Sold.{AreSoldInTurn}
 use Rattle.bx_sales.specs.declared.selling.NoSale.{NoSale}
 use Rattle.bx_sales.specs.declared.selling.NoSale.TheVariants.{Late, Full, NoChannel, OtherChannels, Memory}
 use Rattle.bx_market.specs.declared.market.Answer.{Answer}
@@ -26,7 +26,7 @@ IsWhyNot channels d batch chosen i Memory = ⊥
 pub record HasOtherChannels (channels : List Bool) (d : Day) (row : Row) : Type 0 where
   pub sold : List Row
   pub now : Day
-  pub went : GoesThrough channels (map Bought sold) d now
+  pub went : AreSoldInTurn channels sold d now
   pub other : IsOtherPlan channels row now
 
 -- A booking that is chosen is sold, unless memory runs out, or the channels of the day are not those of first fit. Of one that is not chosen it is

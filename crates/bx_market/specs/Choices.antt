@@ -4,7 +4,14 @@ use Rattle.bx_base.specs.Bookings.{Row, pay_of}
 use Rattle.bx_base.specs.declared.bookings.TheConstants.{MAX_BOOKINGS}
 use Rattle.bx_colour.specs.Colouring.{FitsChannels, is_in}
 use Rattle.bx_day.specs.Day.{Day}
+use Rattle.bx_day.specs.Invariant.{is_refused}
+use Rattle.bx_day.specs.declared.entry.Entry.{Entry}
 use Rattle.bx_sales.specs.Selling.{rows_of, marks_of}
+
+-- all that is promised, each as a booking that every plan has to hold
+abbrev pub promised : List Entry → List Row
+promised [] = []
+promised (e ∷ es) = if is_refused e.standing then promised es else record (e.booking) { must = true } ∷ promised es
 
 -- which bookings of a batch are eligible, on a day that has so many by now: each that starts later, while the day has a place for it
 abbrev pub eligible_marks : ℕ → ℕ → List Row → List Bool

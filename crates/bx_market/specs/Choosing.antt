@@ -2,13 +2,6 @@
 use Rattle.std.specs.Prelude.{ℕ, ◌+◌, ◌&&◌, Bool, true, false, List, [], ◌∷◌, Option, if◌then◌else◌}
 use Rattle.bx_base.specs.Bookings.{Row, row_of}
 use Rattle.bx_base.specs.Plans.{is_accepted}
-use Rattle.bx_day.specs.Invariant.{is_refused}
-use Rattle.bx_day.specs.declared.entry.Entry.{Entry}
-
--- all that is promised, each as a booking that every plan has to hold
-abbrev pub promised : List Entry → List Row
-promised [] = []
-promised (e ∷ es) = if is_refused e.standing then promised es else record (e.booking) { must = true } ∷ promised es
 
 -- a booking that a plan may leave out
 abbrev pub free_row : Row → Row

@@ -1,8 +1,9 @@
 -- What a run with a market asked and answered: the acts of a run by the clock, and those towards customers.
-use Rattle.std.specs.Prelude.{List, [], ◌∷◌, Option}
+use Rattle.std.specs.Prelude.{List, [], ◌∷◌, Option, Result}
 use Rattle.bx_base.specs.Bookings.{Row}
 use Rattle.bx_day.specs.Day.{Day}
 use Rattle.bx_live.specs.Acts.{Act}
+use Rattle.bx_sales.specs.declared.changing.NoChange.{NoChange}
 use Rattle.bx_market.specs.declared.market.Request.{Request}
 use Rattle.bx_market.specs.declared.market.Answer.{Answer}
 use Rattle.bx_market.specs.declared.market.Answer.TheVariants.{Accepted, Refused}
@@ -10,10 +11,12 @@ use Rattle.bx_market.specs.declared.market.Answer.TheVariants.{Accepted, Refused
 pub data Deal : Type 0 where
   -- an act of the run by the clock
   Ran : (act : Act) → Deal
-  -- the market was shown this day and asked for a batch of bookings, and had one, maybe under a key, or none
+  -- the market was shown this day and asked what is wanted: a batch of bookings, maybe under a key, or a change of one of the day, or nothing
   Asked : (shown : Day) (request : Option Request) → Deal
-  -- its customer was told which of them are sold
+  -- the customer of a batch was told which of its bookings are sold
   Answered : (answers : List Answer) → Deal
+  -- the customer of a change was told whether it is done
+  ToldOfChange : (answer : Result (Unit {0}) NoChange) → Deal
 
 -- the acts of the run by the clock
 abbrev pub acts_of : List Deal → List Act
@@ -21,6 +24,7 @@ acts_of [] = []
 acts_of (Ran act ∷ deals) = act ∷ acts_of deals
 acts_of (Asked shown request ∷ deals) = acts_of deals
 acts_of (Answered answers ∷ deals) = acts_of deals
+acts_of (ToldOfChange answer ∷ deals) = acts_of deals
 
 abbrev pub all_ran : List Act → List Deal
 all_ran [] = []

@@ -1,4 +1,5 @@
 pub mod Deals
+pub mod Changes
 pub mod Choices
 pub mod Answers
 pub mod Choosing

@@ -7,14 +7,19 @@ use Rattle.bx_day.specs.Day.{Day}
 use Rattle.bx_live.specs.declared.world.CannotLog.{CannotLog}
 use Rattle.bx_live.specs.Acts.{begins_none}
 use Rattle.bx_live.specs.Runs.{Over, Between}
+use Rattle.bx_events.specs.declared.amendment.Amendment.{Amendment}
+use Rattle.bx_planfile.specs.OneBooking.{row_on}
+use Rattle.bx_sales.specs.Amending.{AmendsDay}
 use Rattle.bx_sales.specs.Selling.{rows_with, marks_with, IsSold, IsOtherPlan}
 use Rattle.bx_sales.specs.declared.selling.NoSale.{NoSale}
 use Rattle.bx_sales.specs.declared.tag.Tag.{Tag}
 use Rattle.bx_sales.specs.declared.selling.NoSale.TheVariants.{Late, Full, NoChannel, OtherChannels, Memory}
 use Rattle.bx_market.specs.declared.market.Answer.{Answer}
+use Rattle.bx_market.specs.declared.market.Request.{Request}
 use Rattle.bx_market.specs.declared.market.Answer.TheVariants.{Accepted, Refused}
 use Rattle.bx_market.specs.Deals.{Deal, acts_of, sold_of}
-use Rattle.bx_market.specs.Stands.{Stand, Within, Filing, IsMarketRun}
+use Rattle.bx_market.specs.Changes.{IsLineOf}
+use Rattle.bx_market.specs.Stands.{Stand, Within, Filing, Changing, IsMarketRun}
 use Rattle.bx_market.specs.Answers.{AreTold}
 
 -- the world has gone through the deals of a run in which no second begins
@@ -52,6 +57,13 @@ module _ {W : Type 0} (dealt : W → List Deal → W → Type 0) (old new : W) w
   -- the customer is told that memory ran out
   abbrev pub TellsOfMemory : Day → List Row → Type 0
   TellsOfMemory d batch = (channels : List Bool) (tag : Option Tag) → Asks dealt channels old new (Filing d d tag batch []) (Within (Between d))
+
+module _ {W : Type 0} (dealt : W → List Deal → W → Type 0) (old new : W) where
+  -- whatever change this line tells, that is done: it is in the journal and on the disk, and its customer is told
+  abbrev pub KeepsAny : Amendment → List ℕ → Result (Unit {0}) CannotLog → Type 0
+  KeepsAny kind line result =
+      (channels : List Bool) (shown d : Day) (request : Request) → AmendsDay channels row_on kind line shown d → IsLineOf request kind line
+      → OrOver dealt channels old new (Changing shown request) (Within (Between d)) result
 
 -- what has become of a booking that was offered: it is sold; or why it is not
 abbrev pub IsOfferSettled : List Bool → Row → Day → Day → Result Answer CannotLog → Type 0

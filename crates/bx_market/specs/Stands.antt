@@ -1,19 +1,25 @@
 -- A live run with sales: which acts come one after another.
-use Rattle.std.specs.Prelude.{◌≡◌, ℕ, ◌≤◌, ◌<◌, Bool, true, false, List, [], ◌∷◌, ◌++◌, Option, Some, None}
+use Rattle.std.specs.Prelude.{◌≡◌, ℕ, ◌≤◌, ◌<◌, Bool, true, false, List, [], ◌∷◌, ◌++◌, Option, Some, None, Ok, Err}
 use Rattle.bx_base.specs.Bookings.{Row}
 use Rattle.bx_day.specs.Day.{Day}
-use Rattle.bx_events.specs.Events.{Sold}
+use Rattle.bx_events.specs.Events.{Amended}
+use Rattle.bx_events.specs.declared.amendment.Amendment.{Amendment}
+use Rattle.bx_events.specs.declared.amendment.Amendment.TheVariants.{Sold}
 use Rattle.bx_events.specs.declared.moment.TheConstants.{LAST_MOMENT}
 use Rattle.bx_live.specs.Acts.{Began, Logged, Synced}
 use Rattle.bx_live.specs.Held.{has_call}
 use Rattle.bx_live.specs.Runs.{Place, Between, Over, IsDue, next, day_at}
 use Rattle.bx_planfile.specs.OneBooking.{row_on}
+use Rattle.bx_sales.specs.Amending.{AmendsDay}
 use Rattle.bx_sales.specs.Selling.{IsSold}
 use Rattle.bx_sales.specs.Tags.{row_behind, tag_of}
 use Rattle.bx_sales.specs.declared.tag.Tag.{Tag}
+use Rattle.bx_market.specs.declared.market.Batch.{Batch}
 use Rattle.bx_market.specs.declared.market.Request.{Request}
+use Rattle.bx_market.specs.declared.market.Request.TheVariants.{Sell, Cancel, Change}
 use Rattle.bx_market.specs.Answers.{AreTold}
-use Rattle.bx_market.specs.Deals.{Deal, Ran, Asked, Answered, sold_of}
+use Rattle.bx_market.specs.Changes.{IsLineOf, IsNotChanged}
+use Rattle.bx_market.specs.Deals.{Deal, Ran, Asked, Answered, ToldOfChange, sold_of}
 
 -- where a run stands
 pub data Stand : Type 0 where
@@ -23,12 +29,20 @@ pub data Stand : Type 0 where
   Filing : (shown d : Day) (tag : Option Tag) (batch sold : List Row) → Stand
   -- what is sold of the batch is on the disk
   Telling : (shown d : Day) (tag : Option Tag) (batch sold : List Row) → Stand
+  -- a change was asked for where the day was shown, and is not done
+  Changing : (shown : Day) (request : Request) → Stand
+  -- it is done, and in the journal; and that is on the disk
+  Noted : (shown d : Day) (request : Request) → Stand
+  Kept : (shown d : Day) (request : Request) → Stand
 
 -- the day as far as its events and sales are logged
 abbrev pub stand_day : Stand → Day
 stand_day (Within p) = day_at p
 stand_day (Filing shown d tag batch sold) = d
 stand_day (Telling shown d tag batch sold) = d
+stand_day (Changing shown request) = shown
+stand_day (Noted shown d request) = d
+stand_day (Kept shown d request) = d
 
 -- one booking more is sold, and in the journal with the key of its batch; or it could not be logged, and nothing more is done
 abbrev pub FiledSale : List Bool → Day → Day → Option Tag → List Row → List Row → List ℕ → Bool → Stand → Type 0
@@ -41,22 +55,42 @@ abbrev pub synced : Day → Day → Option Tag → List Row → List Row → Boo
 synced shown d tag batch sold true = Telling shown d tag batch sold
 synced shown d tag batch sold false = Within (Over d)
 
+-- a change is done and in the journal; or it could not be logged, and nothing more is done
+abbrev pub FiledChange : List Bool → Day → Request → Amendment → List ℕ → Bool → Stand → Type 0
+FiledChange channels shown request kind line true to = (d : Day) × AmendsDay channels row_on kind line shown d × IsLineOf request kind line × (to ≡ Noted shown d request)
+FiledChange channels shown request kind line false to = to ≡ Within (Over shown)
+
+-- it is on the disk; or it may not be, and nothing more is done
+abbrev pub kept_on_disk : Day → Day → Request → Bool → Stand
+kept_on_disk shown d request true = Kept shown d request
+kept_on_disk shown d request false = Within (Over d)
+
+abbrev pub asked_batch : Day → Batch → Stand
+asked_batch d batch = Filing d d batch.tag batch.bookings []
+
 abbrev pub asked_for : Day → Request → Stand
-asked_for d request = Filing d d request.tag request.batch []
+asked_for d (Sell batch) = asked_batch d batch
+asked_for d (Cancel row) = Changing d (Cancel row)
+asked_for d (Change row booking) = Changing d (Change row booking)
 
 abbrev pub asked_stand : Day → Option Request → Stand
 asked_stand d None = Within (Between d)
 asked_stand d (Some request) = asked_for d request
 
 -- A deal leads from one stand to another. Between two seconds the market is shown the day so far, and asked. Each booking that is sold is logged, one sync
--- follows, and only then the customer is answered, of the best choice among the batch; where nothing is sold, no sync is wanted.
+-- follows, and only then the customer is answered, of the best choice among the batch; where nothing is sold, no sync is wanted. A change is logged, on the
+-- disk, and told, or it is told why it is not done.
 abbrev pub GoesByDeal : List Bool → Stand → Deal → Stand → Type 0
 GoesByDeal channels (Within p) (Ran act) to = IsDue p act × (to ≡ Within (next p act))
 GoesByDeal channels (Within (Between d)) (Asked shown request) to = (shown ≡ d) × (to ≡ asked_stand d request)
-GoesByDeal channels (Filing shown d tag batch sold) (Ran (Logged (Sold line) done)) to = FiledSale channels shown d tag batch sold line done to
+GoesByDeal channels (Filing shown d tag batch sold) (Ran (Logged (Amended Sold line) done)) to = FiledSale channels shown d tag batch sold line done to
 GoesByDeal channels (Filing shown d tag batch sold) (Ran (Synced done)) to = to ≡ synced shown d tag batch sold done
 GoesByDeal channels (Filing shown d tag batch sold) (Answered answers) to = (sold ≡ []) × (sold_of batch answers ≡ []) × AreTold channels shown batch answers × (to ≡ Within (Between d))
 GoesByDeal channels (Telling shown d tag batch sold) (Answered answers) to = (sold_of batch answers ≡ sold) × AreTold channels shown batch answers × (to ≡ Within (Between d))
+GoesByDeal channels (Changing shown request) (Ran (Logged (Amended kind line) done)) to = FiledChange channels shown request kind line done to
+GoesByDeal channels (Changing shown request) (ToldOfChange (Err why)) to = IsNotChanged channels shown request why × (to ≡ Within (Between shown))
+GoesByDeal channels (Noted shown d request) (Ran (Synced done)) to = to ≡ kept_on_disk shown d request done
+GoesByDeal channels (Kept shown d request) (ToldOfChange (Ok done)) to = to ≡ Within (Between d)
 GoesByDeal _ _ _ _ = ⊥
 
 -- the deals of a run from one stand to another

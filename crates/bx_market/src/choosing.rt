@@ -5,8 +5,8 @@ ghost use Rattle.bx_base.specs.Plans.{is_accepted};
 ghost use Rattle.bx_base.specs.declared.bookings.TheConstants.{MAX_BOOKINGS};
 ghost use Rattle.bx_colour.specs.Colouring.{is_in, FitsChannels};
 ghost use Rattle.bx_day.specs.Invariant.{is_refused};
-ghost use Rattle.bx_market.specs.Choices.{eligible_marks, IsBestBatch};
-ghost use Rattle.bx_market.specs.Choosing.{promised, free_row, free_rows, chosen_marks};
+ghost use Rattle.bx_market.specs.Choices.{promised, eligible_marks, IsBestBatch};
+ghost use Rattle.bx_market.specs.Choosing.{free_row, free_rows, chosen_marks};
 
 use bx_base::{Booking, Bookings, ChannelSet, MAX_BOOKINGS};
 use bx_channels::Channel;
@@ -81,8 +81,8 @@ pub fn is_promised(standing: Standing) -> bool
     }
 }
 
-/// All that is promised, each as a booking that every plan has to hold.
-fn promised(alloc: Global, entries: &[Entry]) -> Result<Bookings, AllocError>
+/// All that is promised of these, each as a booking that every plan has to hold. `AllocError` where memory runs out.
+pub fn promised(alloc: Global, entries: &[Entry]) -> Result<Bookings, AllocError>
     ensures { IfOk result (λ rows. rows ≡ promised entries.now) }
 {
     let mut rows = Bookings::new(alloc);

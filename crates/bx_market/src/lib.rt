@@ -1,12 +1,14 @@
-//! A live run with sales: between two seconds customers ask for bookings, and what is sold is logged before they are told.
+//! A live run with sales and changes: between two seconds customers ask for bookings, give some up and change some, and what is done is logged before
+//! they are told.
 #![tactic(auto)]
 
+mod changing;
 mod choosing;
 pub mod laws;
 mod market;
 mod offering;
 mod running;
 
-pub use choosing::is_promised;
-pub use market::{Answer, Market, Request};
+pub use choosing::{is_promised, promised};
+pub use market::{Answer, Batch, Market, Request};
 pub use running::run_market;

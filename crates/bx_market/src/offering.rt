@@ -3,15 +3,15 @@
 ghost use Rattle.std.specs.Prelude.{◌≡◌, ◌≤◌, ◌<◌, [], true, false, length, Ok, OnOk};
 ghost use Rattle.bx_live.specs.Runs.{Between};
 ghost use Rattle.bx_market.specs.Choices.{eligible_marks, IsBestBatch};
-ghost use Rattle.bx_market.specs.Stands.{Within, Filing, asked_for};
+ghost use Rattle.bx_market.specs.Stands.{Within, Filing, asked_batch};
 ghost use Rattle.bx_market.specs.Offers.{IsOfferSettled, OrOver, why_not, IsOfferedInAny, TellsOfAny, TellsOfMemory};
 
 use crate::choosing::{Choice, choose};
-use crate::market::{Answer, Market, Request};
+use crate::market::{Answer, Batch, Market};
 use arrayvec::ArrayVec;
 use bx_base::{Booking, Bookings, ChannelSet, MAX_BOOKINGS};
 use bx_day::Exchange;
-use bx_events::LiveEvent;
+use bx_events::{Amendment, LiveEvent};
 use bx_live::CannotLog;
 use bx_planfile::spell_booking;
 use bx_sales::{NoSale, Tag, sale_line, sell};
@@ -35,7 +35,7 @@ fn offer<W: Market>(
     match sell(alloc, exchange, channels, &booking) {
         Ok(()) => {
             let line = sale_line(tag, &spell_booking(booking));
-            world.log(LiveEvent::Sold(&line))?;
+            world.log(LiveEvent::Amended(Amendment::Sold, &line))?;
             Ok(Answer::Accepted)
         }
         Err(why) => Ok(Answer::Refused(why)),
@@ -166,16 +166,16 @@ pub(crate) fn offer_all<W: Market>(
     exchange: &mut Exchange,
     world: &mut W,
     channels: ChannelSet,
-    request: &Request,
+    batch: &Batch,
 ) -> Result<(), CannotLog>
-    ensures sold { OrOver W.dealt channels world.old world.new (asked_for exchange.old request.now) (Within (Between exchange.new)) result }
+    ensures sold { OrOver W.dealt channels world.old world.new (asked_batch exchange.old batch.now) (Within (Between exchange.new)) result }
     ensures moment { OnOk result (exchange.new.moment ≡ exchange.old.moment) }
 {
-    let Request { tag, batch } = request;
-    match choose(alloc, exchange, channels, batch) {
-        Ok(choice) => sell_chosen(alloc, exchange, world, channels, *tag, batch, &choice),
+    let Batch { tag, bookings } = batch;
+    match choose(alloc, exchange, channels, bookings) {
+        Ok(choice) => sell_chosen(alloc, exchange, world, channels, *tag, bookings, &choice),
         Err(AllocError) => {
-            tell_of_memory(world, exchange, batch);
+            tell_of_memory(world, exchange, bookings);
             Ok(())
         }
     }

@@ -2,11 +2,12 @@
 
 ghost use Rattle.std.specs.Prelude.{◌≡◌, OnOk};
 ghost use Rattle.bx_live.specs.Runs.{Between};
-ghost use Rattle.bx_market.specs.Stands.{Within};
+ghost use Rattle.bx_market.specs.Stands.{Within, asked_for};
 ghost use Rattle.bx_market.specs.Offers.{OrOver};
 ghost use Rattle.bx_market.specs.SaleRuns.{IsSaleRun};
 
-use crate::market::Market;
+use crate::changing::{cancel_one, change_one};
+use crate::market::{Market, Request};
 use crate::offering::offer_all;
 use bx_base::ChannelSet;
 use bx_day::Exchange;
@@ -14,10 +15,28 @@ use bx_events::LAST_MOMENT;
 use bx_live::{CannotLog, Second, close_day, goes_on, run_second};
 use std::alloc::Global;
 
-/// The most batches that are taken between two seconds.
-const MAX_BATCHES: u32 = 16;
+/// The most requests that are taken between two seconds.
+const MAX_REQUESTS: u32 = 16;
 
-/// Shows the market the exchange and asks it once, and sells the best choice of its batch.
+/// Does what a customer asks for, where that can be.
+fn serve<W: Market>(
+    alloc: Global,
+    exchange: &mut Exchange,
+    world: &mut W,
+    channels: ChannelSet,
+    request: Request,
+) -> Result<(), CannotLog>
+    ensures served { OrOver W.dealt channels world.old world.new (asked_for exchange.old request) (Within (Between exchange.new)) result }
+    ensures moment { OnOk result (exchange.new.moment ≡ exchange.old.moment) }
+{
+    match request {
+        Request::Sell(batch) => offer_all(alloc, exchange, world, channels, &batch),
+        Request::Cancel(row) => cancel_one(alloc, exchange, world, channels, row),
+        Request::Change(row, booking) => change_one(alloc, exchange, world, channels, row, booking),
+    }
+}
+
+/// Shows the market the exchange and asks it once, and does what it asks for.
 fn ask_once<W: Market>(
     alloc: Global,
     exchange: &mut Exchange,
@@ -29,14 +48,14 @@ fn ask_once<W: Market>(
 {
     match world.ask(exchange) {
         Some(request) => {
-            offer_all(alloc, exchange, world, channels, &request)?;
+            serve(alloc, exchange, world, channels, request)?;
             Ok(true)
         }
         None => Ok(false),
     }
 }
 
-/// Asks the market until it has no batch, or has had so many.
+/// Asks the market until nobody waits, or so many were served.
 fn ask_all<W: Market>(
     alloc: Global,
     exchange: &mut Exchange,
@@ -46,7 +65,7 @@ fn ask_all<W: Market>(
     ensures sold { OrOver W.dealt channels world.old world.new (Within (Between exchange.old)) (Within (Between exchange.new)) result }
     ensures moment { OnOk result (exchange.new.moment ≡ exchange.old.moment) }
 {
-    for _batch in 0..MAX_BATCHES {
+    for _request in 0..MAX_REQUESTS {
         let is_asked = ask_once(alloc, exchange, world, channels)?;
         if !is_asked {
             return Ok(());
@@ -56,9 +75,9 @@ fn ask_all<W: Market>(
 }
 
 /// Runs the day up to a second of it, and after that on while a call is up, so that each call that is begun is cleared and can be billed: until none is up,
-/// or up to `LAST_MOMENT`, or until the world says that it is over. Before each second the market is shown the exchange and asked for batches of bookings, at
-/// most 16 times: of each batch the best choice is sold beside all that is promised (`laws::best_of_each_batch`), row by row, logged, brought to the disk by
-/// one sync, and only then answered. So the day is the one of the last plan over the logged events (`laws::day_of_the_last_plan`). At
+/// or up to `LAST_MOMENT`, or until the world says that it is over. Before each second the market is shown the exchange and asked what is
+/// wanted, at most 16 times: of each batch the best choice is sold beside all that is promised (`laws::best_of_each_batch`), row by row, logged, brought
+/// to the disk by one sync, and only then answered; a booking is given up, or changed, logged, brought to the disk, and only then answered. So the day is the one of the last plan over the logged events (`laws::day_of_the_last_plan`). At
 /// `CannotLog` nothing more is done, and nothing is answered: the exchange is to be dropped, and the day that is logged is read again.
 pub fn run_market<W: Market>(
     alloc: Global,

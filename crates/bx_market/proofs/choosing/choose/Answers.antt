@@ -1,7 +1,7 @@
 use Rattle.std.proofs.Common.{◌≡◌, ◌++◌, List, Bool, [], Err, refl, ap, ◌∙◌, length, arith, rules}
 use Rattle.std.specs.List.{each_same}
-use Rattle.bx_market.specs.Choices.{eligible_marks}
-use Rattle.bx_market.specs.Choosing.{promised, free_rows}
+use Rattle.bx_market.specs.Choices.{promised, eligible_marks}
+use Rattle.bx_market.specs.Choosing.{free_rows}
 use Rattle.bx_market.proofs.Eligible.{eligible_count}
 use Rattle.bx_market.proofs.Chosen.{found_best, found_none, found_all}
 use Rattle.bx_market.proofs.choosing.choose.Goals.{in-Ok+in_ok-chosen-in-Ok, in-Err-TooManyMust+in_ok-chosen-in-Err-TooManyMust}

@@ -1,5 +1,5 @@
 use Rattle.std.proofs.Common.{◌≡◌, ◌++◌, drop}
-use Rattle.bx_market.specs.Choosing.{promised}
+use Rattle.bx_market.specs.Choices.{promised}
 use Rattle.bx_market.proofs.choosing.promised.Given as goal
 
 abbrev pub invariant-loop-entry : goal.invariant-loop-entry

@@ -4,7 +4,7 @@ use Rattle.bx_base.specs.Bookings.{Row, row_at}
 use Rattle.bx_colour.specs.Colouring.{is_in}
 use Rattle.bx_day.specs.Invariant.{is_refused}
 use Rattle.bx_day.specs.declared.entry.Entry.{Entry}
-use Rattle.bx_market.specs.Choosing.{promised}
+use Rattle.bx_market.specs.Choices.{promised}
 use Rattle.bx_market.proofs.Totals.{total, all_of}
 
 abbrev must_row : Row → Row
