@@ -4,5 +4,5 @@ mod Recordings
 mod Texts
 pub mod ToldJournals
 pub mod Replays
-mod Sold
+mod FollowedEvents
 mod DayFaults

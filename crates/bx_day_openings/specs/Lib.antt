@@ -13,7 +13,7 @@ pub mod Journals
 pub mod JournalRefusals
 pub mod Followed
 pub mod Replays
-pub mod Sales
+pub mod Amendments
 pub mod Going
 pub mod Selling
 pub mod Joined

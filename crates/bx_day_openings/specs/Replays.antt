@@ -1,19 +1,19 @@
--- A day that has gone through the events and sales of its journal, or why it has not.
+-- A day that has gone through the events of its journal and what amends its plan, or why it has not.
 use Rattle.std.specs.Prelude.{◌≡◌, ◌⊎◌, ℕ, Bool, List, ◌++◌, Option, Some, None, Ok}
 use Rattle.bx_day.specs.Day.{Day}
 use Rattle.bx_day_openings.specs.declared.fault.DayCommandFault.{DayCommandFault}
-use Rattle.bx_day_openings.specs.declared.fault.DayCommandFault.TheVariants.{Sale}
+use Rattle.bx_day_openings.specs.declared.fault.DayCommandFault.TheVariants.{Amendment}
 use Rattle.bx_day_openings.specs.JournalRefusals.{IsNoJournal, HasNoJournal}
 use Rattle.bx_day_openings.specs.Journals.{IsJournal}
 use Rattle.bx_events.specs.Events.{LiveEvent}
 use Rattle.bx_journal.specs.Reading.{recovered, events_before}
 use Rattle.bx_journal.specs.declared.head.Wanted.{Wanted}
-use Rattle.bx_day_openings.specs.Sales.{SaleIn, IsBadSale}
+use Rattle.bx_day_openings.specs.Amendments.{AmendmentIn, IsBadAmendment}
 use Rattle.bx_day_openings.specs.Selling.{day_goes}
-use Rattle.bx_day_openings.specs.declared.reselling.SaleFault.{SaleFault}
+use Rattle.bx_day_openings.specs.declared.amending.AmendmentFault.{AmendmentFault}
 use Rattle.bx_devices.specs.Devices.{Reading}
 
--- just the events of a journal happened, and each of its sales was sold again where it stands
+-- just the events of a journal happened, and what amends the plan was done again where it stands
 pub record IsDayThrough (channels : List Bool) (wanted : Wanted) (before : Option (List ℕ)) (opened day : Day) : Type 0 where
   pub events : List LiveEvent
   pub journal : IsJournal wanted before events
@@ -25,23 +25,23 @@ pub record IsReadSoFar (wanted : Wanted) (before : Option (List ℕ)) (events : 
   pub prefix : (known : List ℕ) → before ≡ Some known → (rest : List ℕ) × (known ≡ read ++ rest)
   pub are : (recovered wanted read ≡ Ok events) ⊎ (events_before wanted read ≡ events)
 
--- a journal has a sale that is none of the day that it has come to, and all before it is right
-pub record HasBadSale (channels : List Bool) (wanted : Wanted) (before : Option (List ℕ)) (opened : Day) (fault : SaleFault) : Type 0 where
+-- a journal has a line that amends the plan and is none of the day that it has come to, and all before it is right
+pub record HasBadAmendment (channels : List Bool) (wanted : Wanted) (before : Option (List ℕ)) (opened : Day) (fault : AmendmentFault) : Type 0 where
   pub events : List LiveEvent
   pub read : IsReadSoFar wanted before events
-  pub sale : SaleIn events
+  pub amendment : AmendmentIn events
   pub day : Day
-  pub through : day_goes channels opened sale.before day
-  pub why : IsBadSale channels sale.line day fault
+  pub through : day_goes channels opened amendment.before day
+  pub why : IsBadAmendment channels amendment.kind amendment.line day fault
 
 -- why a day has not gone through the journal of this name
 abbrev pub IsNoReplay : List ℕ → Wanted → List Bool → Day → Option (List ℕ) → Option (List ℕ) → Bool → DayCommandFault → Type 0
-IsNoReplay name wanted channels opened before after faulted (Sale fault) = HasBadSale channels wanted before opened fault
+IsNoReplay name wanted channels opened before after faulted (Amendment fault) = HasBadAmendment channels wanted before opened fault
 IsNoReplay name wanted channels opened before after faulted fault = IsNoJournal name wanted before after faulted fault
 
 -- the same of a file of this name, which is not opened, or does not tell its octets
 abbrev pub HasNoReplay : List ℕ → Wanted → List Bool → Day → DayCommandFault → Type 0
-HasNoReplay name wanted channels opened (Sale fault) = HasBadSale channels wanted None opened fault
+HasNoReplay name wanted channels opened (Amendment fault) = HasBadAmendment channels wanted None opened fault
 HasNoReplay name wanted channels opened fault = HasNoJournal name wanted fault
 
 -- the same of what was read

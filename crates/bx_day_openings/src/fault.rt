@@ -1,6 +1,6 @@
 //! Why a day was not run, or not told.
 
-use crate::reselling::SaleFault;
+use crate::amending::AmendmentFault;
 use bx_calendar::DayFault;
 use bx_capture::BeyondCapture;
 use bx_check_commands::CommandFault;
@@ -29,9 +29,9 @@ pub enum DayCommandFault<'a> {
     /// What was read is no journal of the plan.
     #[error(transparent)]
     Journal(JournalFault),
-    /// The journal has a sale that is none of its day.
+    /// The journal has a line that amends the plan, and is none of its day.
     #[error(transparent)]
-    Sale(SaleFault),
+    Amendment(AmendmentFault),
     /// The port or the socket cannot be listened on, or no peer can be accepted.
     #[error("F3 CannotListen")]
     CannotListen,
@@ -79,14 +79,14 @@ impl<'a> From<BeyondCapture> for DayCommandFault<'a> {
     }
 }
 
-impl<'a> From<SaleFault> for DayCommandFault<'a> {
+impl<'a> From<AmendmentFault> for DayCommandFault<'a> {
     ghost use Rattle.std.specs.Prelude.{◌≡◌};
-    ghost use Rattle.bx_day_openings.specs.declared.fault.DayCommandFault.TheVariants.{Sale};
+    ghost use Rattle.bx_day_openings.specs.declared.fault.DayCommandFault.TheVariants.{Amendment};
 
-    ghost from_gives = { λ fault told. told ≡ Sale fault };
+    ghost from_gives = { λ fault told. told ≡ Amendment fault };
 
-    fn from(fault: SaleFault) -> DayCommandFault<'a> {
-        DayCommandFault::Sale(fault)
+    fn from(fault: AmendmentFault) -> DayCommandFault<'a> {
+        DayCommandFault::Amendment(fault)
     }
 }
 

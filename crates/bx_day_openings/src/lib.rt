@@ -1,8 +1,9 @@
 //! What a command that runs a day or tells of one opens: the plan, with the digest that ties a journal to it, the exchange and the far end at
-//! their openings, how long the day is, the journal, of which each event happens and each sale is sold again as it is read, the connection, the
-//! captured file and the moment that is shown.
+//! their openings, how long the day is, the journal, of which each event happens, and what amends the plan is done again, as it is read, the
+//! connection, the captured file and the moment that is shown.
 #![tactic(auto)]
 
+mod amending;
 mod capturing;
 mod causes;
 mod fault;
@@ -15,12 +16,12 @@ mod plan_opening;
 mod progress;
 mod recording;
 mod replaying;
-mod reselling;
 mod selling;
 mod sockets;
 mod system;
 mod tied;
 
+pub use amending::{AmendmentFault, amend_again};
 pub use capturing::{captured, file_of, first_of};
 pub use causes::unheard;
 pub use fault::DayCommandFault;
@@ -35,7 +36,6 @@ pub use recording::{
     RecordsFile, clock_of, kept, record, records_clock_of, records_file_of, unrecorded,
 };
 pub use replaying::{Replayed, day_turns, replay_journal};
-pub use reselling::{SaleFault, resell};
 pub use selling::Selling;
 pub use sockets::{accepted_at, connected_at, listener_at};
 pub use system::System;

@@ -23,7 +23,7 @@ use bx_sales::Tag;
 use std::alloc::Global;
 use std::io::Read;
 
-/// An exchange after the events and sales of its journal, of each sale under which key it was asked for, or none, and how that was read.
+/// An exchange after the events of its journal and what amends its plan, of each sale under which key it was asked for, or none, and how that was read.
 #[derive(Drop)]
 pub struct Replayed {
     pub exchange: Exchange,
@@ -31,9 +31,10 @@ pub struct Replayed {
     pub whole: Result<u64, JournalFault>,
 }
 
-/// The exchange after the events of a journal of this name, where it is the one that is wanted; what it says was sold is sold again, on the channels in
-/// service. A journal that was not begun has no event. It is read once, in pieces, so it may be of any length. `Sale` where a sale is none of its day;
-/// else `Journal`, as `BadLine`, `OtherPlan`, `OtherDay` or `OtherRules`, or `Command`, as `CannotRead` of that name: what stands first in it is answered.
+/// The exchange after the events of a journal of this name, where it is the one that is wanted; what it says amends the plan is done again, on the
+/// channels in service. A journal that was not begun has no event. It is read once, in pieces, so it may be of any length. `Amendment` where such a line
+/// is none of its day; else `Journal`, as `BadLine`, `OtherPlan`, `OtherDay` or `OtherRules`, or `Command`, as `CannotRead` of that name: what stands
+/// first in it is answered.
 pub fn replay_journal<'a, R: Read>(
     alloc: Global,
     name: &'a str,

@@ -1,27 +1,39 @@
-//! An exchange that follows a journal with sales.
+//! An exchange that follows a journal.
 
-ghost use Rattle.std.specs.Prelude.{◌≡◌, ◌∷◌, [], None, Some, IfOk, IfErr};
-ghost use Rattle.bx_events.specs.Events.{Sold};
+ghost use Rattle.std.specs.Prelude.{◌≡◌, ◌∷◌, ◌++◌, [], None, Some, IfOk, IfErr, OnOk};
+ghost use Rattle.bx_events.specs.Events.{Amended};
 ghost use Rattle.bx_journal.specs.Events.{logged_event};
-ghost use Rattle.bx_day_openings.specs.Selling.{IsAfter};
+ghost use Rattle.bx_day_openings.specs.Selling.{IsAfter, tagged_by};
 
-use crate::reselling::{SaleFault, resell};
+use crate::amending::{AmendmentFault, amend_again};
 use bx_base::ChannelSet;
 use bx_day::Exchange;
+use bx_events::Amendment;
 use bx_journal::{Follower, LoggedEvent};
 use bx_sales::{Tag, tag_of};
-use std::alloc::Global;
+use std::alloc::{AllocError, Global};
 
-/// An exchange to which the events of a journal happen, and which sells again what the journal says was sold, on the channels in
-/// service. What it sends was sent before, so it goes nowhere. From the first sale on that is none it stays as it was there, with why. Until
-/// then it keeps of each sale under which key it was asked for, or none.
+/// An exchange to which the events of a journal happen, and which sells, gives up and changes again what the journal says was sold, given up and
+/// changed, on the channels in service. What it sends was sent before, so it goes nowhere. From the first such line on that is none of its day it stays
+/// as it was there, with why. Until then it keeps of each sale under which key it was asked for, or none.
 #[derive(Drop)]
 pub struct Selling {
     alloc: Global,
     channels: ChannelSet,
     pub exchange: Exchange,
-    pub sale: Option<SaleFault>,
+    pub fault: Option<AmendmentFault>,
     pub tags: Vec<Option<Tag>>,
+}
+
+/// Keeps under which key the booking of a line was asked for, where the line says that it was sold.
+fn keep_tag(tags: &mut Vec<Option<Tag>>, kind: Amendment, line: &[u8]) -> Result<(), AllocError>
+    ensures { OnOk result (tags.new.items ≡ tags.old.items ++ tagged_by kind line.now []) }
+{
+    match kind {
+        Amendment::Sold => tags.push(tag_of(line))?,
+        Amendment::Cancelled | Amendment::Changed => {}
+    }
+    Ok(())
 }
 
 impl Selling {
@@ -29,60 +41,60 @@ impl Selling {
     pub fn new(alloc: Global, channels: ChannelSet, exchange: Exchange) -> Self
         ensures channels { result.channels ≡ channels }
         ensures exchange { result.exchange ≡ exchange }
-        ensures sale { result.sale ≡ None }
+        ensures fault { result.fault ≡ None }
         ensures tags { result.tags.items ≡ [] }
     {
         Selling {
             alloc,
             channels,
             exchange,
-            sale: None,
+            fault: None,
             tags: Vec::new(alloc),
         }
     }
 
-    /// The exchange, or the first sale that was none.
-    pub fn into_exchange(self) -> Result<Exchange, SaleFault>
-        ensures whole { IfOk result (λ exchange. (self.sale ≡ None) × (exchange ≡ self.exchange)) }
-        ensures stopped { IfErr result (λ fault. self.sale ≡ Some fault) }
+    /// The exchange, or why the first line is none that is none of its day.
+    pub fn into_exchange(self) -> Result<Exchange, AmendmentFault>
+        ensures whole { IfOk result (λ exchange. (self.fault ≡ None) × (exchange ≡ self.exchange)) }
+        ensures stopped { IfErr result (λ fault. self.fault ≡ Some fault) }
     {
         let (exchange, _tags) = self.into_sold()?;
         Ok(exchange)
     }
 
     /// The same, and of each sale under which key it was asked for.
-    pub(crate) fn into_sold(self) -> Result<(Exchange, Vec<Option<Tag>>), SaleFault>
-        ensures whole { IfOk result (λ sold. (self.sale ≡ None) × (sold.0 ≡ self.exchange) × (sold.1 ≡ self.tags)) }
-        ensures stopped { IfErr result (λ fault. self.sale ≡ Some fault) }
+    pub(crate) fn into_sold(self) -> Result<(Exchange, Vec<Option<Tag>>), AmendmentFault>
+        ensures whole { IfOk result (λ sold. (self.fault ≡ None) × (sold.0 ≡ self.exchange) × (sold.1 ≡ self.tags)) }
+        ensures stopped { IfErr result (λ fault. self.fault ≡ Some fault) }
     {
         let Selling {
             exchange,
-            sale,
+            fault,
             tags,
             ..
         } = self;
-        match sale {
+        match fault {
             None => Ok((exchange, tags)),
             Some(fault) => Err(fault),
         }
     }
 
-    /// Sells again what a line says was sold, where nothing was wrong yet.
-    fn take(&mut self, line: &[u8])
-        ensures { self.old.sale ≡ None → IsAfter self.old (Sold line.now ∷ []) self.new }
+    /// Does again what a line says became of a booking, where nothing was wrong yet.
+    fn take(&mut self, kind: Amendment, line: &[u8])
+        ensures { self.old.fault ≡ None → IsAfter self.old (Amended kind line.now ∷ []) self.new }
     {
-        if self.tags.push(tag_of(line)).is_err() {
-            self.sale = Some(SaleFault::Memory);
+        if keep_tag(&mut self.tags, kind, line).is_err() {
+            self.fault = Some(AmendmentFault::Memory);
             return;
         }
-        if let Err(fault) = resell(self.alloc, &mut self.exchange, self.channels, line) {
-            self.sale = Some(fault);
+        if let Err(fault) = amend_again(self.alloc, &mut self.exchange, self.channels, kind, line) {
+            self.fault = Some(fault);
         }
     }
 
     /// The next event happens, where nothing was wrong yet.
     fn go_on(&mut self, event: &LoggedEvent)
-        ensures { self.old.sale ≡ None → IsAfter self.old (logged_event event.now ∷ []) self.new }
+        ensures { self.old.fault ≡ None → IsAfter self.old (logged_event event.now ∷ []) self.new }
     {
         match event {
             LoggedEvent::Tick => {
@@ -92,7 +104,7 @@ impl Selling {
                 let _reply = self.exchange.receive(octets);
             }
             LoggedEvent::Down(rules) => self.exchange.second_without_link(*rules),
-            LoggedEvent::Sold(line) => self.take(line),
+            LoggedEvent::Amended(kind, line) => self.take(*kind, line),
             LoggedEvent::HeardByRulesTwo(octets) => {
                 let _reply = self.exchange.receive_by_rules_two(octets);
             }
@@ -107,7 +119,7 @@ impl Follower for Selling {
     ghost followed = { IsAfter };
 
     fn follow(&mut self, event: &LoggedEvent) {
-        if self.sale.is_none() {
+        if self.fault.is_none() {
             self.go_on(event);
         }
     }

@@ -3,7 +3,7 @@ use Rattle.std.proofs.Common.{◌≡◌, ℕ, zero, suc, ◌+◌, ◌==◌, Bool
 use Rattle.arrayvec.specs.ArrayVec.{ArrayVec}
 use Rattle.bx_day.specs.Day.{Day}
 use Rattle.bx_day.specs.Course.{exchange_next, exchange_sent, exchange_text}
-use Rattle.bx_events.specs.Events.{Receive, LiveEvent, OnLink, WithoutLink, Sold, HeardByRulesTwo}
+use Rattle.bx_events.specs.Events.{Receive, LiveEvent, OnLink, WithoutLink, Amended, HeardByRulesTwo}
 use Rattle.bx_frames.specs.declared.fault.LinkFault.{LinkFault}
 use Rattle.bx_frames.specs.declared.fault.LinkFault.TheVariants.{WrongMoment}
 use Rattle.bx_frames.specs.declared.frame.Frame.{Frame}
@@ -40,7 +40,7 @@ goes_on = by_due GoesOn on_begun on_logged on_received on_took on_synced on_writ
   on_logged : (d : Day) (room : ℕ) (event : LiveEvent) (done : Bool) → GoesOn (Logging d room event) (Logged event done)
   on_logged d room event false = tt
   on_logged d room (WithoutLink rules) true = λ over. over
-  on_logged d room (Sold line) true = λ over. over
+  on_logged d room (Amended kind line) true = λ over. over
   on_logged d room (HeardByRulesTwo octets) true = λ over. over
   on_logged d room (OnLink event) true = owing_on (exchange_next d event) room (exchange_sent d event) (exchange_text d event)
 

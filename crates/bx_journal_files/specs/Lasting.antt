@@ -3,9 +3,9 @@ use Rattle.std.specs.Prelude.{Bool, true, false}
 use Rattle.bx_check_commands.specs.declared.fault.CommandFault.{CommandFault}
 use Rattle.bx_check_commands.specs.declared.fault.CommandFault.TheVariants.{Plan, Check}
 use Rattle.bx_day_openings.specs.declared.fault.DayCommandFault.{DayCommandFault}
-use Rattle.bx_day_openings.specs.declared.fault.DayCommandFault.TheVariants.{Command, Day, Capture, Journal, Sale}
-use Rattle.bx_day_openings.specs.declared.reselling.SaleFault.{SaleFault}
-use Rattle.bx_day_openings.specs.declared.reselling.SaleFault.TheVariants.{Memory}
+use Rattle.bx_day_openings.specs.declared.fault.DayCommandFault.TheVariants.{Command, Day, Capture, Journal, Amendment}
+use Rattle.bx_day_openings.specs.declared.amending.AmendmentFault.{AmendmentFault}
+use Rattle.bx_day_openings.specs.declared.amending.AmendmentFault.TheVariants.{Memory}
 use Rattle.bx_journal.specs.declared.fault.JournalFault.{JournalFault}
 use Rattle.bx_journal.specs.declared.fault.JournalFault.TheVariants.{NotBegun, ReadFailed}
 use Rattle.bx_journal_files.specs.declared.fault.LiveFault.{LiveFault}
@@ -23,10 +23,10 @@ does_journal_last NotBegun = false
 does_journal_last ReadFailed = false
 does_journal_last _ = true
 
--- it has a sale that is none of its day
-abbrev pub does_sale_last : SaleFault → Bool
-does_sale_last Memory = false
-does_sale_last _ = true
+-- it has a line that amends the plan and is none of its day
+abbrev pub does_amendment_last : AmendmentFault → Bool
+does_amendment_last Memory = false
+does_amendment_last _ = true
 
 -- or the words name no day
 abbrev pub does_opening_last : DayCommandFault → Bool
@@ -34,7 +34,7 @@ does_opening_last (Command fault) = does_command_last fault
 does_opening_last (Day fault) = true
 does_opening_last (Capture fault) = true
 does_opening_last (Journal fault) = does_journal_last fault
-does_opening_last (Sale fault) = does_sale_last fault
+does_opening_last (Amendment fault) = does_amendment_last fault
 does_opening_last _ = false
 
 -- or the plan cannot be sold on, the journal is no file, or the day has no more seconds

@@ -1,11 +1,11 @@
 //! Why a day that is logged was not run to its end.
 
 ghost use Rattle.std.specs.Prelude.{◌≡◌, true, is_some};
-ghost use Rattle.bx_journal_files.specs.Lasting.{does_command_last, does_journal_last, does_last, does_opening_last, does_sale_last};
+ghost use Rattle.bx_journal_files.specs.Lasting.{does_amendment_last, does_command_last, does_journal_last, does_last, does_opening_last};
 ghost use Rattle.bx_journal_files.specs.OpeningFaults.{IsUnlogged};
 
 use bx_check_commands::CommandFault;
-use bx_day_openings::{DayCommandFault, SaleFault};
+use bx_day_openings::{AmendmentFault, DayCommandFault};
 use bx_journal::JournalFault;
 use thiserror::Error;
 
@@ -58,7 +58,7 @@ fn does_opening_last(fault: DayCommandFault<'_>) -> bool
         DayCommandFault::Command(fault) => does_command_last(fault),
         DayCommandFault::Day(_) | DayCommandFault::Capture(_) => true,
         DayCommandFault::Journal(fault) => does_journal_last(fault),
-        DayCommandFault::Sale(fault) => does_sale_last(fault),
+        DayCommandFault::Amendment(fault) => does_amendment_last(fault),
         DayCommandFault::Script(_)
         | DayCommandFault::CannotListen
         | DayCommandFault::CannotConnect
@@ -81,11 +81,11 @@ fn does_journal_last(fault: JournalFault) -> bool
     !matches!(fault, JournalFault::NotBegun | JournalFault::ReadFailed)
 }
 
-/// The same of a sale of the journal.
-fn does_sale_last(fault: SaleFault) -> bool
-    ensures { result ≡ does_sale_last fault }
+/// The same of a line of the journal that amends the plan.
+fn does_amendment_last(fault: AmendmentFault) -> bool
+    ensures { result ≡ does_amendment_last fault }
 {
-    !matches!(fault, SaleFault::Memory)
+    !matches!(fault, AmendmentFault::Memory)
 }
 
 impl<'a> From<DayCommandFault<'a>> for LiveFault<'a> {

@@ -48,7 +48,7 @@ fn make_ready<D: Disk>(
 }
 
 /// Lets the events happen to the exchange that the journal in a file of this name has, sells again what it says was sold, and makes it ready for
-/// what comes. A journal that was not begun has none, and begins. `LiveFault::Day` where it is not read to its end: as `Sale`, as `Journal`,
+/// what comes. A journal that was not begun has none, and begins. `LiveFault::Day` where it is not read to its end: as `Amendment`, as `Journal`,
 /// as `BadLine`, `OtherPlan`, `OtherDay` or `OtherRules`, or as `Command`, as `CannotRead`; `CannotRecord` where it cannot be made ready.
 pub fn resume_on<'a, F: Read + DiskFile + Drop>(
     alloc: Global,

@@ -15,7 +15,7 @@ returns-in_err-exchange-clause-refused g c =
     let p = err_from_is_err_and c.from_residual.result c.from_residual.ensures.1 in
     rw (p.1, p.2)
     (bad_sale IsAfter (is_faulted read.new.device) (g.R.Read.remaining (device_of c.args.journal.now)) (g.R.Read.remaining (device_of read.new.device)) c.args.wanted.now fresh.result read.new.follower c.args.channels c.args.exchange read.new.follower.exchange fault
-    (λ events h. stopped c.args.channels c.args.exchange fresh.result read.new.follower fresh.ensures.channels fresh.ensures.exchange fresh.ensures.sale events h fault c.in_err-exchange.ensures.stopped) read.result read.ensures.read)
+    (λ events h. stopped c.args.channels c.args.exchange fresh.result read.new.follower fresh.ensures.channels fresh.ensures.exchange fresh.ensures.fault events h fault c.in_err-exchange.ensures.stopped) read.result read.ensures.read)
 
 pub returns-in_err-journal_read-clause-refused : goal.returns-in_err-journal_read-clause-refused
 returns-in_err-journal_read-clause-refused g c =
@@ -35,7 +35,7 @@ returns-clause-through g c =
     let after = g.R.Read.remaining (device_of read.new.device) in
     let day = read.new.follower.exchange in
     let followed = followed_as IsAfter (day_goes c.args.channels) (λ (s : Selling). s.exchange) (is_faulted read.new.device) before after c.args.wanted.now fresh.result read.new.follower
-    (λ events h. went c.args.channels fresh.result.exchange fresh.result read.new.follower fresh.ensures.channels refl fresh.ensures.sale events h c.in_ok-exchange.ensures.whole.0) read.result read.ensures.read in
+    (λ events h. went c.args.channels fresh.result.exchange fresh.result read.new.follower fresh.ensures.channels refl fresh.ensures.fault events h c.in_ok-exchange.ensures.whole.0) read.result read.ensures.read in
     rw (← fresh.ensures.exchange)
     (goes_on c.args.channels c.args.wanted.now before fresh.result.exchange day c.in_ok-exchange.exchange c.journal_read.result c.in_ok-journal_read.field-0 c.in_ok-journal_read.was c.in_ok-exchange.ensures.whole.1
     (followed_whole (day_goes c.args.channels) (is_faulted read.new.device) before after c.args.wanted.now fresh.result.exchange day c.args.name read.result c.journal_read.result c.journal_read.ensures followed))
