@@ -18,7 +18,7 @@ use Rattle.bx_journal.specs.declared.fault.JournalFault.{JournalFault}
 use Rattle.bx_journal.specs.declared.fault.JournalFault.TheVariants.{NotBegun}
 use Rattle.bx_journal.specs.declared.head.Wanted.{Wanted}
 use Rattle.bx_audit.specs.Audits.{IsAudited, IsKeptSoFar}
-use Rattle.bx_events.specs.Events.{Event, LiveEvent, OnLink, WithoutLink, Sold, HeardByRulesTwo}
+use Rattle.bx_events.specs.Events.{Event, LiveEvent, OnLink, WithoutLink, Amended, HeardByRulesTwo}
 use Rattle.std.specs.Option.{option_map}
 use Rattle.bx_q931.specs.Outgoing.{Outgoing, out_octets}
 use Rattle.bx_calls.specs.Sending.{reply_list, spelled}
@@ -31,12 +31,12 @@ use Rattle.bx_day.specs.Day.{Day}
 use Rattle.bx_day.specs.Course.{exchange_next, exchange_sent}
 use Rattle.bx_day.specs.Outages.{live_happens}
 use Rattle.bx_planfile.specs.OneBooking.{row_on}
-use Rattle.bx_sales.specs.Tags.{row_behind}
-use Rattle.bx_sales.specs.Selling.{IsSold}
+use Rattle.bx_events.specs.declared.amendment.Amendment.{Amendment}
+use Rattle.bx_sales.specs.Amending.{AmendsDay}
 use Rattle.bx_day_openings.specs.Going.{IsStopped, GoesFrom}
-use Rattle.bx_day_openings.specs.Sales.{IsBadSale}
+use Rattle.bx_day_openings.specs.Amendments.{IsBadAmendment}
 use Rattle.bx_day_openings.specs.Selling.{day_goes}
-use Rattle.bx_day_openings.specs.declared.reselling.SaleFault.{SaleFault}
+use Rattle.bx_day_openings.specs.declared.amending.AmendmentFault.{AmendmentFault}
 use Rattle.bx_audit.specs.Followed.{IsLiveCaptured, Taken, IsTaken, IsRecaptured, taken_of}
 use Rattle.bx_audit.specs.LiveCaptures.{live_packets_for, CapturesThrough}
 
@@ -65,12 +65,12 @@ captured_by_two contents first file file1 file2 d d' came at replies moment sent
     ∙ sym (append-nil text) in
     record { day = day; stays = refl; kept = subst (Keeps contents file file2) same (keeps_more contents file file1 file2 (packet (first + at) Received came) (flat_map (packet_sent (first + at)) replies) p q) }
 
-module _ {W : Type 0} (contents : W → Option (List ℕ)) (cs cs' : List Bool) (s s' : Option SaleFault) (a b : Taken W) (same : cs' ≡ cs) where
+module _ {W : Type 0} (contents : W → Option (List ℕ)) (cs cs' : List Bool) (s s' : Option AmendmentFault) (a b : Taken W) (same : cs' ≡ cs) where
   taken_as : (events : List LiveEvent) → s ≡ None → GoesFrom (IsTaken contents cs) (λ (t : Taken W). t.day) cs None a events b s' → IsRecaptured contents cs cs' s s' a events b
-  taken_as events none goes = (same, subst (λ (x : Option SaleFault). GoesFrom (IsTaken contents cs) (λ (t : Taken W). t.day) cs x a events b s') (sym none) goes)
+  taken_as events none goes = (same, subst (λ (x : Option AmendmentFault). GoesFrom (IsTaken contents cs) (λ (t : Taken W). t.day) cs x a events b s') (sym none) goes)
 
   went : (events : List LiveEvent) → s ≡ None → s' ≡ s → IsTaken contents cs a events b → IsRecaptured contents cs cs' s s' a events b
-  went events none still goes = taken_as events none (subst (λ (x : Option SaleFault). GoesFrom (IsTaken contents cs) (λ (t : Taken W). t.day) cs None a events b x) (sym (still ∙ none)) goes)
+  went events none still goes = taken_as events none (subst (λ (x : Option AmendmentFault). GoesFrom (IsTaken contents cs) (λ (t : Taken W). t.day) cs None a events b x) (sym (still ∙ none)) goes)
 
   pub on_link : (e : Event) → s ≡ None → s' ≡ s → IsLiveCaptured contents a.first b.first a.file b.file a.day b.day (OnLink e ∷ []) → IsRecaptured contents cs cs' s s' a (OnLink e ∷ []) b
   on_link e none still p = went (OnLink e ∷ []) none still (record { stays = p.stays; octets = live_packets_for a.first a.day (OnLink e) ++ []; through = ([], refl, (p.day, refl)); kept = p.kept })
@@ -82,18 +82,18 @@ module _ {W : Type 0} (contents : W → Option (List ℕ)) (cs cs' : List Bool) 
   pub without_link : (rules : Rules) → s ≡ None → s' ≡ s → b.day ≡ (live_happens a.day (WithoutLink rules)).day → b.file ≡ a.file → b.first ≡ a.first → IsRecaptured contents cs cs' s s' a (WithoutLink rules ∷ []) b
   without_link rules none still day file first = went (WithoutLink rules ∷ []) none still (record { stays = first; octets = []; through = (day, refl); kept = subst (λ (f : Option (Watched W)). Keeps contents a.file f []) (sym file) (keeps_nil contents a.file) })
 
-  pub sold_again : (line : List ℕ) → s ≡ None → s' ≡ s → IsSold cs (row_behind row_on line) a.day b.day → b.file ≡ a.file → b.first ≡ a.first → IsRecaptured contents cs cs' s s' a (Sold line ∷ []) b
-  sold_again line none still is file first =
-      went (Sold line ∷ []) none still (record { stays = first; octets = []; through = (b.day, is, (refl, refl)); kept = subst (λ (f : Option (Watched W)). Keeps contents a.file f []) (sym file) (keeps_nil contents a.file) })
+  pub amended_again : (kind : Amendment) (line : List ℕ) → s ≡ None → s' ≡ s → AmendsDay cs row_on kind line a.day b.day → b.file ≡ a.file → b.first ≡ a.first → IsRecaptured contents cs cs' s s' a (Amended kind line ∷ []) b
+  amended_again kind line none still is file first =
+      went (Amended kind line ∷ []) none still (record { stays = first; octets = []; through = (b.day, is, (refl, refl)); kept = subst (λ (f : Option (Watched W)). Keeps contents a.file f []) (sym file) (keeps_nil contents a.file) })
 
-  pub not_sold : (line : List ℕ) (fault : SaleFault) → s ≡ None → s' ≡ Some fault → b.day ≡ a.day → b.file ≡ a.file → b.first ≡ a.first → IsBadSale cs line a.day fault → IsRecaptured contents cs cs' s s' a (Sold line ∷ []) b
-  not_sold line fault none is day file first why = taken_as (Sold line ∷ []) none (subst (λ (x : Option SaleFault). GoesFrom (IsTaken contents cs) (λ (t : Taken W). t.day) cs None a (Sold line ∷ []) b x) (sym is) (record {
-    sale = record { before = []; line = line; following = []; are = refl };
+  pub not_amended : (kind : Amendment) (line : List ℕ) (fault : AmendmentFault) → s ≡ None → s' ≡ Some fault → b.day ≡ a.day → b.file ≡ a.file → b.first ≡ a.first → IsBadAmendment cs kind line a.day fault → IsRecaptured contents cs cs' s s' a (Amended kind line ∷ []) b
+  not_amended kind line fault none is day file first why = taken_as (Amended kind line ∷ []) none (subst (λ (x : Option AmendmentFault). GoesFrom (IsTaken contents cs) (λ (t : Taken W). t.day) cs None a (Amended kind line ∷ []) b x) (sym is) (record {
+    amendment = record { before = []; kind = kind; line = line; following = []; are = refl };
     went = record { stays = first; octets = []; through = (day, refl); kept = subst (λ (f : Option (Watched W)). Keeps contents a.file f []) (sym file) (keeps_nil contents a.file) };
-    why = subst (λ (d : Day). IsBadSale cs line d fault) (sym day) why;
+    why = subst (λ (d : Day). IsBadAmendment cs kind line d fault) (sym day) why;
   }))
 
-pub stays_if : {W : Type 0} (contents : W → Option (List ℕ)) (cs : List Bool) (s : Option SaleFault) (a : Taken W) (events : List LiveEvent) → is_some s ≡ true → IsRecaptured contents cs cs s s a events a
+pub stays_if : {W : Type 0} (contents : W → Option (List ℕ)) (cs : List Bool) (s : Option AmendmentFault) (a : Taken W) (events : List LiveEvent) → is_some s ≡ true → IsRecaptured contents cs cs s s a events a
 stays_if contents cs None a events is = cc
 stays_if contents cs (Some fault) a events is = (refl, (refl, refl))
 
@@ -101,27 +101,27 @@ stays_if contents cs (Some fault) a events is = (refl, (refl, refl))
 
 pub through_of : (channels : List Bool) (first : ℕ) (events : List LiveEvent) (d d1 : Day) (octets : List ℕ) → CapturesThrough channels first events d d1 octets → day_goes channels d events d1
 through_of channels first [] d d1 octets h = h.0
-through_of channels first (Sold line ∷ events) d d1 octets (sold, is, rest) = (sold, is, through_of channels first events sold d1 octets rest)
+through_of channels first (Amended kind line ∷ events) d d1 octets (amended, is, rest) = (amended, is, through_of channels first events amended d1 octets rest)
 through_of channels first (OnLink event ∷ events) d d1 octets (more, are, rest) = through_of channels first events (live_happens d (OnLink event)).day d1 more rest
 through_of channels first (HeardByRulesTwo came ∷ events) d d1 octets (more, are, rest) = through_of channels first events (live_happens d (HeardByRulesTwo came)).day d1 more rest
 through_of channels first (WithoutLink rules ∷ events) d d1 octets rest = through_of channels first events (live_happens d (WithoutLink rules)).day d1 octets rest
 
 -- from the day and the file as they were at the beginning
-module _ {W : Type 0} (contents : W → Option (List ℕ)) (channels cs cs' : List Bool) (s s' : Option SaleFault) (a b : Taken W) (first : ℕ) (file : Option (Watched W)) (opened : Day) (on_channels : cs ≡ channels) (fresh : s ≡ None) (opens : a ≡ taken_of opened file first) (events : List LiveEvent) (h : IsRecaptured contents cs cs' s s' a events b) where
+module _ {W : Type 0} (contents : W → Option (List ℕ)) (channels cs cs' : List Bool) (s s' : Option AmendmentFault) (a b : Taken W) (first : ℕ) (file : Option (Watched W)) (opened : Day) (on_channels : cs ≡ channels) (fresh : s ≡ None) (opens : a ≡ taken_of opened file first) (events : List LiveEvent) (h : IsRecaptured contents cs cs' s s' a events b) where
   from_start : GoesFrom (IsTaken contents channels) (λ (t : Taken W). t.day) channels None (taken_of opened file first) events b s'
   from_start =
       subst (λ (t : Taken W). GoesFrom (IsTaken contents channels) (λ (u : Taken W). u.day) channels None t events b s') opens
       (subst (λ (x : List Bool). GoesFrom (IsTaken contents x) (λ (t : Taken W). t.day) x None a events b s') on_channels
-      (subst (λ (x : Option SaleFault). GoesFrom (IsTaken contents cs) (λ (t : Taken W). t.day) cs x a events b s') fresh h.1))
+      (subst (λ (x : Option AmendmentFault). GoesFrom (IsTaken contents cs) (λ (t : Taken W). t.day) cs x a events b s') fresh h.1))
 
   pub taken_whole : s' ≡ None → IsTaken contents channels (taken_of opened file first) events b
-  taken_whole whole = subst (λ (x : Option SaleFault). GoesFrom (IsTaken contents channels) (λ (t : Taken W). t.day) channels None (taken_of opened file first) events b x) whole from_start
+  taken_whole whole = subst (λ (x : Option AmendmentFault). GoesFrom (IsTaken contents channels) (λ (t : Taken W). t.day) channels None (taken_of opened file first) events b x) whole from_start
 
-  pub taken_to : (fault : SaleFault) → s' ≡ Some fault → IsStopped (IsTaken contents channels) (λ (t : Taken W). t.day) channels (taken_of opened file first) events b fault
-  taken_to fault is = subst (λ (x : Option SaleFault). GoesFrom (IsTaken contents channels) (λ (t : Taken W). t.day) channels None (taken_of opened file first) events b x) is from_start
+  pub taken_to : (fault : AmendmentFault) → s' ≡ Some fault → IsStopped (IsTaken contents channels) (λ (t : Taken W). t.day) channels (taken_of opened file first) events b fault
+  taken_to fault is = subst (λ (x : Option AmendmentFault). GoesFrom (IsTaken contents channels) (λ (t : Taken W). t.day) channels None (taken_of opened file first) events b x) is from_start
 
-  pub stopped_day : (fault : SaleFault) → s' ≡ Some fault → IsStopped (day_goes channels) (λ (d : Day). d) channels opened events b.day fault
-  stopped_day fault is = let t = taken_to fault is in record { sale = t.sale; went = through_of channels first t.sale.before opened b.day t.went.octets t.went.through; why = t.why }
+  pub stopped_day : (fault : AmendmentFault) → s' ≡ Some fault → IsStopped (day_goes channels) (λ (d : Day). d) channels opened events b.day fault
+  stopped_day fault is = let t = taken_to fault is in record { amendment = t.amendment; went = through_of channels first t.amendment.before opened b.day t.went.octets t.went.through; why = t.why }
 
 -- ---- the opening of a plan
 

@@ -1,5 +1,8 @@
 mod Audited
 mod OnItsDay
+mod Held
+mod SalesAlone
+mod CheckedLast
 mod SoldDays
 mod BestAfter
 mod SeenDays

@@ -1,14 +1,13 @@
 -- A day that was always on its link.
 use Rattle.std.proofs.Common.{◌≡◌, ℕ, Bool, List, [], ◌∷◌, ◌++◌, map, refl, ap, ◌∙◌}
-use Rattle.bx_events.specs.Events.{Event, LiveEvent, OnLink, WithoutLink, Sold, HeardByRulesTwo}
+use Rattle.bx_events.specs.Events.{Event, LiveEvent, OnLink, WithoutLink, Amended, HeardByRulesTwo}
 use Rattle.bx_capture.specs.Captures.{packets_for}
 use Rattle.bx_day.specs.Day.{Day}
 use Rattle.bx_day.specs.Course.{exchange_next, exchange_sent}
 use Rattle.bx_day.specs.Outages.{live_happens, live_day_after}
 use Rattle.bx_day.specs.Run.{happens, day_after}
 use Rattle.bx_frames.specs.Courses.{told}
-use Rattle.bx_planfile.specs.OneBooking.{row_on}
-use Rattle.bx_sales.specs.Journal.{sold_in}
+use Rattle.bx_audit.specs.Laws.{HasNoAmendment}
 use Rattle.bx_audit.specs.LiveCaptures.{live_packets, live_packets_for, CapturesThrough}
 
 abbrev on_link : List Event → List LiveEvent
@@ -22,18 +21,18 @@ pub same_day : (events : List Event) (d : Day) → live_day_after (on_link event
 same_day [] d = refl
 same_day (e ∷ es) d = same_day es (happens d e).day
 
--- ---- a day on which nothing was sold
+-- ---- a day whose plan nothing amends
 
 more_packets : (xs ys more : List ℕ) → more ≡ ys → xs ++ more ≡ xs ++ ys
 more_packets xs ys more e = ap (λ (l : List ℕ). xs ++ l) e
 
-pub unsold_day : (channels : List Bool) (first : ℕ) (events : List LiveEvent) (d d1 : Day) (octets : List ℕ) → sold_in row_on events ≡ [] → CapturesThrough channels first events d d1 octets → (d1 ≡ live_day_after events d) × (octets ≡ live_packets first events d)
-unsold_day channels first [] d d1 octets none h = h
-unsold_day channels first (Sold line ∷ events) d d1 octets none h = absurd cc
-unsold_day channels first (OnLink event ∷ events) d d1 octets none (more, are, rest) =
-    let later = unsold_day channels first events (live_happens d (OnLink event)).day d1 more none rest in
+pub unamended_day : (channels : List Bool) (first : ℕ) (events : List LiveEvent) (d d1 : Day) (octets : List ℕ) → HasNoAmendment events → CapturesThrough channels first events d d1 octets → (d1 ≡ live_day_after events d) × (octets ≡ live_packets first events d)
+unamended_day channels first [] d d1 octets none h = h
+unamended_day channels first (Amended kind line ∷ events) d d1 octets none h = absurd none
+unamended_day channels first (OnLink event ∷ events) d d1 octets none (more, are, rest) =
+    let later = unamended_day channels first events (live_happens d (OnLink event)).day d1 more none rest in
     (later.0, are ∙ more_packets (live_packets_for first d (OnLink event)) (live_packets first events (live_happens d (OnLink event)).day) more later.1)
-unsold_day channels first (HeardByRulesTwo came ∷ events) d d1 octets none (more, are, rest) =
-    let later = unsold_day channels first events (live_happens d (HeardByRulesTwo came)).day d1 more none rest in
+unamended_day channels first (HeardByRulesTwo came ∷ events) d d1 octets none (more, are, rest) =
+    let later = unamended_day channels first events (live_happens d (HeardByRulesTwo came)).day d1 more none rest in
     (later.0, are ∙ more_packets (live_packets_for first d (HeardByRulesTwo came)) (live_packets first events (live_happens d (HeardByRulesTwo came)).day) more later.1)
-unsold_day channels first (WithoutLink rules ∷ events) d d1 octets none rest = unsold_day channels first events (live_happens d (WithoutLink rules)).day d1 octets none rest
+unamended_day channels first (WithoutLink rules ∷ events) d d1 octets none rest = unamended_day channels first events (live_happens d (WithoutLink rules)).day d1 octets none rest

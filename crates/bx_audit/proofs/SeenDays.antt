@@ -21,8 +21,8 @@ use Rattle.bx_audit.specs.declared.charting.Charting.{Charting}
 abbrev pub SeenGoes : List Bool → Charting → List LiveEvent → Charting → Type 0
 SeenGoes channels old events new = day_goes channels old.selling.exchange events new.selling.exchange × IsNoted old.noting events new.noting
 
--- where no sale was wrong
-pub goes_seen : (channels : List Bool) (a b : Charting) → a.selling.channels ≡ channels → a.selling.sale ≡ None → b.selling.sale ≡ None → (events : List LiveEvent) → HasFollowed a events b → SeenGoes channels a events b
+-- where no line was wrong
+pub goes_seen : (channels : List Bool) (a b : Charting) → a.selling.channels ≡ channels → a.selling.fault ≡ None → b.selling.fault ≡ None → (events : List LiveEvent) → HasFollowed a events b → SeenGoes channels a events b
 goes_seen channels a b on_channels fresh whole events h = (went channels a.selling.exchange a.selling b.selling on_channels refl fresh events h.0 whole, h.1)
 
 module _ (channels : List Bool) (wanted : Wanted) (before : Option (List ℕ)) (opened day : Day) (a b : Charting) (outages : List Outage) where
@@ -42,5 +42,5 @@ module _ (channels : List Bool) (wanted : Wanted) (before : Option (List ℕ)) (
 -- a fault of the journal's text
 pub not_seen : (name : List ℕ) (wanted : Wanted) (channels : List Bool) (opened : Day) (before after : Option (List ℕ)) (faulted : Bool) (fault : DayCommandFault) → IsNoJournal name wanted before after faulted fault → IsNotSeen name wanted channels opened before after faulted fault
 not_seen name wanted channels opened before after faulted (faults.Command commands.Memory) none = tt
-not_seen name wanted channels opened before after faulted (faults.Sale why) none = absurd none
+not_seen name wanted channels opened before after faulted (faults.Amendment why) none = absurd none
 not_seen name wanted channels opened before after faulted fault none = none

@@ -1,101 +1,161 @@
 -- The last plan of a day that is told.
-use Rattle.std.proofs.Common.{◌≡◌, ◌∙◌, ℕ, Bool, true, not, List, [], ◌++◌, map, is_some, length, Option, Ok, refl, sym, subst, arith}
+use Rattle.std.proofs.Common.{◌≡◌, ◌∙◌, ℕ, ◌≤◌, Bool, true, not, List, ◌++◌, map, is_some, length, Option, Result, sym, ap, ap₂, subst, arith}
 use Rattle.std.proofs.lemmas.List.{length-map}
 use Rattle.bx_base.specs.Bookings.{Row, Carries, IsLawful, pay_of}
 use Rattle.bx_base.specs.PlanParts.{Parts}
 use Rattle.bx_base.specs.Plans.{is_accepted, channel_at}
 use Rattle.bx_check.specs.Check.{IsOutcome}
-use Rattle.bx_colour.specs.Colouring.{FitsChannels, IsFirstFit}
-use Rattle.bx_day.specs.Day.{Day, opening}
+use Rattle.bx_check.specs.declared.checker.CheckFault.{CheckFault}
+use Rattle.bx_colour.specs.Colouring.{FitsChannels, IsFirstFit, is_in}
+use Rattle.bx_day.specs.Day.{Day}
 use Rattle.bx_day.specs.Invariant.{is_refused}
 use Rattle.bx_day.specs.declared.entry.Entry.{Entry}
+use Rattle.bx_events.specs.Events.{LiveEvent}
 use Rattle.bx_planfile.specs.OneBooking.{row_on}
 use Rattle.bx_planner.specs.Choices.{IsBest, planned}
 use Rattle.bx_planner.specs.Musts.{IsTooManyMust}
-use Rattle.bx_planner.proofs.Checked.{plan_is_proved}
 use Rattle.bx_planner.proofs.FewMusts.{few_musts}
 use Rattle.bx_day_openings.specs.Selling.{day_goes}
-use Rattle.bx_sales.specs.Journal.{sold_in, HasSoldRows}
-use Rattle.bx_sales.specs.Selling.{rows_of, marks_of}
-use Rattle.bx_sales.proofs.Fitting.{fitting}
-use Rattle.bx_sales.proofs.Rows.{rows_sold, first_fit_marks}
+use Rattle.bx_sales.specs.Journal.{sold_in, rows_after, marks_after, HasLastPlan}
+use Rattle.bx_sales.specs.Selling.{marks_of}
+use Rattle.bx_sales.proofs.Fitting.{fitting, marked_so}
+use Rattle.bx_sales.proofs.Journal.{amended_plan}
+use Rattle.bx_sales.proofs.Rows.{first_fit_marks}
 use Rattle.bx_audit.proofs.BestAfter.{still_lawful, still_best}
-use Rattle.bx_audit.specs.LastPlans.{IsLastPlan}
-use Rattle.bx_audit.specs.PlansOfDays.{ArePrices, IsPlanOfDay}
+use Rattle.bx_audit.proofs.CheckedLast.{told}
+use Rattle.bx_audit.proofs.Held.{held_length, held_of, held_carries, held_lawful, all_held}
+use Rattle.bx_audit.proofs.SalesAlone.{rows_by_sales, marks_by_sales}
+use Rattle.bx_audit.specs.HeldRows.{row_held, rows_as_held}
+use Rattle.bx_audit.specs.LastPlans.{has_sales_alone, IsLastOutcome, IsLastPlan}
+use Rattle.bx_audit.specs.PlansOfDays.{rows_held_on, ArePrices, IsPlanOfDay}
 use Rattle.bx_audit.specs.Recorded.{IsDayTold}
 
-module _ (gives : List ℕ → Option (List ℕ) → Type 0) (plan journal : List ℕ) (channels : List Bool) (day : Day) (told : IsDayTold gives plan journal channels day) where
+module _ (gives : List ℕ → Option (List ℕ) → Type 0) (plan journal : List ℕ) (channels : List Bool) (day : Day) (of_day : IsDayTold gives plan journal channels day) where
   abbrev morning : Parts
-  morning = told.opens.plan
+  morning = of_day.opens.plan
+
+  abbrev events : List LiveEvent
+  events = of_day.through.events
 
   abbrev sold : List Row
-  sold = sold_in row_on told.through.events
+  sold = sold_in row_on events
+
+  -- the bookings of the last plan, and which of them it accepts
+  abbrev rows : List Row
+  rows = rows_after row_on events morning.rows
+
+  abbrev marks : List Bool
+  marks = marks_after events (map is_some morning.assigned)
+
+  abbrev all : List Row
+  all = rows_as_held rows marks
+
+  -- ---- the morning
+
+  count : length morning.assigned ≡ length morning.rows
+  count = of_day.opens.tied.2.limits.one_each
 
   carried : Carries morning.rows channels (is_accepted morning.assigned) (channel_at morning.assigned)
-  carried = subst (λ (cs : List Bool). Carries morning.rows cs (is_accepted morning.assigned) (channel_at morning.assigned)) (sym told.opens.in_service) told.opens.tied.2.proved.best.carried
+  carried = subst (λ (cs : List Bool). Carries morning.rows cs (is_accepted morning.assigned) (channel_at morning.assigned)) (sym of_day.opens.in_service) of_day.opens.tied.2.proved.best.carried
 
   lawful : IsLawful morning.rows channels (is_accepted morning.assigned)
-  lawful = subst (λ (cs : List Bool). IsLawful morning.rows cs (is_accepted morning.assigned)) (sym told.opens.in_service) told.opens.tied.2.proved.best.lawful
+  lawful = subst (λ (cs : List Bool). IsLawful morning.rows cs (is_accepted morning.assigned)) (sym of_day.opens.in_service) of_day.opens.tied.2.proved.best.lawful
 
   best : IsBest morning.rows channels (pay_of morning.rows (is_accepted morning.assigned))
-  best = subst (λ (cs : List Bool). IsBest morning.rows cs (pay_of morning.rows (is_accepted morning.assigned))) (sym told.opens.in_service)
-      (subst (λ (total : ℕ). IsBest morning.rows morning.channels total) told.opens.tied.2.proved.best.paid told.opens.tied.2.proved.best.best)
+  best = subst (λ (cs : List Bool). IsBest morning.rows cs (pay_of morning.rows (is_accepted morning.assigned))) (sym of_day.opens.in_service)
+      (subst (λ (total : ℕ). IsBest morning.rows morning.channels total) of_day.opens.tied.2.proved.best.paid of_day.opens.tied.2.proved.best.best)
 
-  has_rows : HasSoldRows channels morning.rows morning.assigned sold day
-  has_rows =
-      let limits = told.opens.tied.2.limits in
-      rows_sold channels row_on told.through.events [] morning.rows morning.assigned (opening morning.rows morning.assigned) day limits.one_each limits.rows carried refl
-      (subst (λ (d : Day). day_goes channels d told.through.events day) told.opens.opens told.through.through)
+  -- ---- the day
 
-  pub day_fits : FitsChannels (rows_of day) (marks_of day) channels
+  has_plan : HasLastPlan channels rows marks events day
+  has_plan =
+      amended_plan channels row_on morning.rows morning.assigned events day count of_day.opens.tied.2.limits.rows carried
+      (subst (λ (d : Day). day_goes channels d events day) of_day.opens.opens of_day.through.through)
+
+  held_on : rows_held_on day ≡ all
+  held_on = held_of day.entries ∙ ap₂ (λ (rs : List Row) (ms : List Bool). rows_as_held rs ms) has_plan.rows_are has_plan.marks_are
+
+  pub day_fits : FitsChannels (rows_held_on day) (marks_of day) channels
   day_fits =
-      let h = has_rows in
-      subst (λ (rs : List Row). FitsChannels rs (marks_of day) channels) (sym h.rows_are)
-      (subst (λ (ms : List Bool). FitsChannels (morning.rows ++ sold) ms channels) (h.accepted ∙ sym h.marks_are) (fitting (morning.rows ++ sold) channels h.last h.one_each h.carried))
+      let h = has_plan in
+      subst (λ (rs : List Row). FitsChannels rs (marks_of day) channels) (sym held_on)
+      (subst (λ (ms : List Bool). FitsChannels all ms channels) (h.accepted ∙ sym h.marks_are)
+      (fitting all channels h.last (h.one_each ∙ sym (held_length rows marks)) (held_carries rows marks channels (is_accepted h.last) (channel_at h.last) h.carried)))
 
-  pub day_room : (t : ℕ) → IsTooManyMust (rows_of day) channels t → ⊥
+  pub day_room : (t : ℕ) → IsTooManyMust (rows_held_on day) channels t → ⊥
   day_room t many =
-      let h = has_rows in
-      let few = few_musts (morning.rows ++ sold) channels (is_accepted h.last) (still_lawful morning.rows sold channels morning.assigned told.opens.tied.2.limits.one_each lawful best h.last h.accepted h.carried) t in
-      let here = (subst (λ (rs : List Row). IsTooManyMust rs channels t) h.rows_are many).here in
+      let h = has_plan in
+      let carries = held_carries rows marks channels (is_accepted h.last) (channel_at h.last) h.carried in
+      let holds = held_lawful rows marks channels (is_accepted h.last) (channel_at h.last) (λ i. sym (marked_so h.last i) ∙ ap (λ (ms : List Bool). is_in ms i) h.accepted) carries in
+      let few = few_musts all channels (is_accepted h.last) holds t in
+      let here = (subst (λ (rs : List Row). IsTooManyMust rs channels t) held_on many).here in
       absurd (omega (arith, few, here))
 
-  -- as many marks as bookings
-  marked : length (marks_of day) ≡ length (rows_of day)
-  marked = length-map day.entries (λ (e : Entry). not (is_refused e.standing)) ∙ sym (length-map day.entries (λ (e : Entry). e.booking))
+  -- ---- after sales alone
 
-  proved_of : (last : Parts) → IsPlanOfDay day channels last → IsOutcome last.rows last.channels last (Ok last.total)
-  proved_of last p =
-      let h = has_rows in
-      let all = morning.rows ++ sold in
-      let count = told.opens.tied.2.limits.one_each in
-      let accepted : map is_some last.assigned ≡ map is_some morning.assigned ++ map (λ (row : Row). true) sold = first_fit_marks (rows_of day) channels (marks_of day) last.assigned marked p.first_fit ∙ h.marks_are in
-      let carries = subst (λ (rs : List Row). Carries rs channels (is_accepted last.assigned) (channel_at last.assigned)) h.rows_are p.carried in
-      let prices = subst (λ (rs : List Row). ArePrices rs channels last.prices last.total) h.rows_are p.priced in
-      let still = still_lawful morning.rows sold channels morning.assigned count lawful best last.assigned accepted carries in
-      let most = still_best morning.rows sold channels morning.assigned count lawful best last.assigned accepted prices.set prices.lawful in
-      let least = prices.best (is_accepted last.assigned) still in
-      let paid : last.total ≡ pay_of all (is_accepted last.assigned) = omega (arith, most, least, prices.paid) in
-      let outcome = plan_is_proved all channels last.assigned last.prices last.total carries still paid prices.proves in
-      subst (λ (rs : List Row). IsOutcome rs last.channels (planned rs last.channels last.assigned last.prices last.total) (Ok last.total)) (sym (p.rows_are ∙ h.rows_are))
-      (subst (λ (cs : List Bool). IsOutcome all cs (planned all cs last.assigned last.prices last.total) (Ok last.total)) (sym p.in_service) outcome)
+  module _ (alone : has_sales_alone events ≡ true) where
+    sold_marks : marks ≡ map is_some morning.assigned ++ map (λ (row : Row). true) sold
+    sold_marks = marks_by_sales row_on events (map is_some morning.assigned) alone
 
-  pub last_of : (last : Parts) → IsPlanOfDay day channels last → IsLastPlan gives plan journal last
-  last_of last p =
-      let h = has_rows in
-      record {
-        morning = morning;
-        digest = told.digest;
-        tied = told.opens.tied;
-        before = told.before;
-        given = told.given;
-        events = told.through.events;
-        on_log = told.through.journal;
-        rows_are = p.rows_are ∙ h.rows_are;
-        in_service = p.in_service ∙ told.opens.in_service;
-        first_fit = subst (λ (rs : List Row). IsFirstFit rs last.channels (map is_some morning.assigned ++ map (λ (row : Row). true) sold) last.assigned) (sym p.rows_are)
-            (subst (λ (ms : List Bool). IsFirstFit (rows_of day) last.channels ms last.assigned) h.marks_are
-            (subst (λ (cs : List Bool). IsFirstFit (rows_of day) cs (marks_of day) last.assigned) (sym p.in_service) p.first_fit));
-        total = last.total;
-        proved = proved_of last p;
-      }
+    sold_rows : all ≡ morning.rows ++ sold
+    sold_rows =
+        let h = has_plan in
+        let rows_are = rows_by_sales row_on events morning.rows alone in
+        let still = still_lawful morning.rows sold channels morning.assigned count lawful best h.last (h.accepted ∙ sold_marks) (subst (λ (rs : List Row). Carries rs channels (is_accepted h.last) (channel_at h.last)) rows_are h.carried) in
+        ap (λ (rs : List Row). rows_as_held rs marks) rows_are
+        ∙ all_held (morning.rows ++ sold) marks (λ i lt must. sym (ap (λ (ms : List Bool). is_in ms i) h.accepted) ∙ marked_so h.last i ∙ still.has_musts i lt must)
+
+    -- no choice of them pays more
+    pub most_paid : (assigned : List (Option ℕ)) → map is_some assigned ≡ marks → (set : ℕ → Bool) → IsLawful all channels set → pay_of all set ≤ pay_of all (is_accepted assigned)
+    most_paid assigned accepted set l =
+        subst (λ (rs : List Row). pay_of rs set ≤ pay_of rs (is_accepted assigned)) (sym sold_rows)
+        (still_best morning.rows sold channels morning.assigned count lawful best assigned (accepted ∙ sold_marks) set (subst (λ (rs : List Row). IsLawful rs channels set) sold_rows l))
+
+  -- ---- its last plan
+
+  module _ (last : Parts) (p : IsPlanOfDay day channels last) where
+    accepted : map is_some last.assigned ≡ marks
+    accepted =
+        let marked : length (marks_of day) ≡ length (rows_held_on day) =
+        length-map day.entries (λ (e : Entry). not (is_refused e.standing)) ∙ sym (length-map day.entries (λ (e : Entry). row_held e.booking (not (is_refused e.standing)))) in
+        first_fit_marks (rows_held_on day) channels (marks_of day) last.assigned marked p.first_fit ∙ has_plan.marks_are
+
+    checked : (outcome : Result ℕ CheckFault) × IsOutcome last.rows last.channels last outcome × IsLastOutcome events outcome
+    checked =
+        let carries = subst (λ (rs : List Row). Carries rs channels (is_accepted last.assigned) (channel_at last.assigned)) held_on p.carried in
+        let prices = subst (λ (rs : List Row). ArePrices rs channels last.prices) held_on p.priced in
+        let paid = subst (λ (rs : List Row). last.total ≡ pay_of rs (is_accepted last.assigned)) held_on p.paid in
+        let holds = held_lawful rows marks channels (is_accepted last.assigned) (channel_at last.assigned) (λ i. sym (marked_so last.assigned i) ∙ ap (λ (ms : List Bool). is_in ms i) accepted) carries in
+        let t = told all channels last.assigned last.prices last.total carries holds paid prices events (λ alone. let most = most_paid alone last.assigned accepted prices.set prices.lawful in omega (arith, most, paid)) in (
+          t.0,
+          subst (λ (rs : List Row). IsOutcome rs last.channels (planned rs last.channels last.assigned last.prices last.total) t.0) (sym (p.rows_are ∙ held_on))
+              (subst (λ (cs : List Bool). IsOutcome all cs (planned all cs last.assigned last.prices last.total) t.0) (sym p.in_service) t.1),
+          t.2,
+        )
+
+    first_fit : IsFirstFit last.rows last.channels marks last.assigned
+    first_fit =
+        subst (λ (rs : List Row). IsFirstFit rs last.channels marks last.assigned) (sym p.rows_are)
+        (subst (λ (ms : List Bool). IsFirstFit (rows_held_on day) last.channels ms last.assigned) has_plan.marks_are
+        (subst (λ (cs : List Bool). IsFirstFit (rows_held_on day) cs (marks_of day) last.assigned) (sym p.in_service) p.first_fit))
+
+    pub last_of : IsLastPlan gives plan journal last
+    last_of = record {
+      morning = morning;
+      digest = of_day.digest;
+      tied = of_day.opens.tied;
+      before = of_day.before;
+      given = of_day.given;
+      events = events;
+      on_log = of_day.through.journal;
+      rows_are = p.rows_are ∙ held_on;
+      in_service = p.in_service ∙ of_day.opens.in_service;
+      first_fit = first_fit;
+      sold_on = λ alone. record {
+        rows_are = p.rows_are ∙ held_on ∙ sold_rows alone;
+        first_fit = subst (λ (ms : List Bool). IsFirstFit last.rows last.channels ms last.assigned) (sold_marks alone) first_fit;
+      };
+      outcome = checked.0;
+      checked = checked.1;
+      allowed = checked.2;
+    }

@@ -14,7 +14,7 @@ use Rattle.bx_audit.specs.Audits.{IsAuditTold, IsAuditCut}
 use Rattle.bx_day_openings.specs.Replays.{IsDayThrough, HasNoReplay}
 use Rattle.bx_day_openings.specs.TiedDays.{IsOpeningOf}
 
--- the journal of the plan that the input of this name gave, in a file, whose sales are right
+-- the journal of the plan that the input of this name gave, in a file, whose amendments are right
 abbrev pub HasJournal : (List ℕ → Option (List ℕ) → Type 0) → List ℕ → Type 0
 HasJournal gives plan = (opened : Day) × (channels : List Bool) × (digest : List ℕ) × IsOpeningOf gives plan opened channels digest × ((day : Day) × IsDayThrough channels (of_any_day digest) None opened day)
 

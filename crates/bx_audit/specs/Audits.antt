@@ -18,7 +18,7 @@ use Rattle.bx_day_openings.specs.declared.plan_opening.DayOpening.{DayOpening}
 use Rattle.bx_day_openings.specs.Replays.{IsNoReplayAsRead}
 use Rattle.bx_day_openings.specs.declared.fault.DayCommandFault.{DayCommandFault}
 
--- the day after just the events and sales of a journal, and the file took the packets of its messages
+-- the day after just the events and amendments of a journal, and the file took the packets of its messages
 pub record IsAudited {F : Type 0} (plan : List ℕ) (channels : List Bool) (before : Option (List ℕ)) (contents : F → Option (List ℕ)) (file closed : Option (Watched F)) (first : ℕ) (opened day : Day) : Type 0 where
   pub events : List LiveEvent
   pub journal : IsJournal (of_any_day plan) before events
@@ -53,7 +53,7 @@ pub record IsAuditCut {F : Type 0} (gives : List ℕ → Option (List ℕ) → T
   pub audit : IsDayAudited gives contents request day is_whole
   pub written : AppendsPrefix before after (outcomes_text day)
 
--- the file took the packets of some events and sales, from the first on
+-- the file took the packets of some events and amendments, from the first on
 pub record IsKeptSoFar {F : Type 0} (contents : F → Option (List ℕ)) (channels : List Bool) (file closed : Option (Watched F)) (first : ℕ) (opened : Day) : Type 0 where
   pub events : List LiveEvent
   pub day : Day

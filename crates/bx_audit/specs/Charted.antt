@@ -12,7 +12,7 @@ use Rattle.bx_journal.specs.Heads.{of_any_day}
 use Rattle.bx_request.specs.declared.request.DayChartRequest.{DayChartRequest}
 use Rattle.bx_audit.specs.Seen.{IsSeenThrough}
 
--- the day of the plan that one input gave, after just the events and sales of the journal that another one gave, with the outages of its link; it is over where
+-- the day of the plan that one input gave, after just the events and amendments of the journal that another one gave, with the outages of its link; it is over where
 -- no booking waits or is live
 pub record IsDaySeen (gives : List ℕ → Option (List ℕ) → Type 0) (plan journal : List ℕ) (channels : List Bool) (day : Day) (sight : Sight) : Type 0 where
   pub opened : Day

@@ -6,7 +6,7 @@ use Rattle.bx_day.specs.Outages.{live_day_after}
 use Rattle.bx_devices.specs.declared.watched.Watched.{Watched}
 use Rattle.bx_events.specs.Events.{LiveEvent}
 use Rattle.bx_day_openings.specs.Going.{GoesFrom}
-use Rattle.bx_day_openings.specs.declared.reselling.SaleFault.{SaleFault}
+use Rattle.bx_day_openings.specs.declared.amending.AmendmentFault.{AmendmentFault}
 use Rattle.bx_audit.specs.LiveCaptures.{live_packets, CapturesThrough}
 use Rattle.bx_capture.specs.declared.captured.Captured.{Captured}
 use Rattle.bx_audit.specs.declared.following.Recaptured.{Recaptured}
@@ -26,16 +26,16 @@ pub record Taken (W : Type 0) : Type 0 where
 abbrev pub taken_of : {W : Type 0} → Day → Option (Watched W) → ℕ → Taken W
 taken_of day file first = record { day = day; file = file; first = first }
 
--- the day went through these events and sales, and the file took the packets of each
+-- the day went through these events and what amends its plan, and the file took the packets of each
 pub record IsTaken {W : Type 0} (contents : W → Option (List ℕ)) (channels : List Bool) (old : Taken W) (events : List LiveEvent) (new : Taken W) : Type 0 where
   pub stays : new.first ≡ old.first
   pub octets : List ℕ
   pub through : CapturesThrough channels old.first events old.day new.day octets
   pub kept : Keeps contents old.file new.file octets
 
--- up to the first sale that is none
-abbrev pub IsRecaptured : {W : Type 0} → (W → Option (List ℕ)) → List Bool → List Bool → Option SaleFault → Option SaleFault → Taken W → List LiveEvent → Taken W → Type 0
-IsRecaptured contents channels channels' sale sale' old events new = (channels' ≡ channels) × GoesFrom (IsTaken contents channels) (λ t. t.day) channels sale old events new sale'
+-- up to the first line that amends the plan and is none of its day
+abbrev pub IsRecaptured : {W : Type 0} → (W → Option (List ℕ)) → List Bool → List Bool → Option AmendmentFault → Option AmendmentFault → Taken W → List LiveEvent → Taken W → Type 0
+IsRecaptured contents channels channels' fault fault' old events new = (channels' ≡ channels) × GoesFrom (IsTaken contents channels) (λ t. t.day) channels fault old events new fault'
 
 -- ---- the same of an exchange with its capture, and of what follows a journal
 
@@ -46,4 +46,4 @@ abbrev pub taken_from : {W : Type 0} → Recaptured W → Taken W
 taken_from r = taken_of r.captured.end r.captured.file r.captured.first
 
 abbrev pub HasRecaptured : {W : Type 0} → (W → Option (List ℕ)) → Recaptured W → List LiveEvent → Recaptured W → Type 0
-HasRecaptured contents old events new = IsRecaptured contents old.channels new.channels old.sale new.sale (taken_from old) events (taken_from new)
+HasRecaptured contents old events new = IsRecaptured contents old.channels new.channels old.fault new.fault (taken_from old) events (taken_from new)

@@ -32,7 +32,7 @@ use Rattle.bx_audit.specs.Unrecorded.{IsNoJournalOf}
 
 -- ---- of an audit
 
--- the day from this opening after just the events and sales of a journal, and whether the file has taken all of its packets
+-- the day from this opening after just the events and amendments of a journal, and whether the file has taken all of its packets
 pub record IsAuditedInto {F : Type 0} (contents : F → Option (List ℕ)) (opening : DayOpening) (before : Option (List ℕ)) (file : Option (Watched F)) (first : ℕ) (day : Day) (is_whole : Bool) : Type 0 where
   pub closed : Option (Watched F)
   pub audited : IsOpeningAudited opening before contents file closed first day
@@ -44,7 +44,7 @@ IsUnreadThrough gives plan journal fault = IsNoOpening plan fault ⊎ ((opened :
 
 -- ---- of records
 
--- from this opening on, the day after just the events and sales of the journal that an input gave
+-- from this opening on, the day after just the events and amendments of the journal that an input gave
 pub record IsGivenThrough (gives : List ℕ → Option (List ℕ) → Type 0) (journal : List ℕ) (opening : DayOpening) (day : Day) : Type 0 where
   pub before : Option (List ℕ)
   pub given : gives journal before
@@ -58,7 +58,7 @@ pub record AreRecordsUnwritten (clock : Option Clock) (entries : List Entry) (ou
 
 -- ---- of a picture
 
--- from this opening on, the day after just the events and sales of the journal that an input gave, with the outages of its link
+-- from this opening on, the day after just the events and amendments of the journal that an input gave, with the outages of its link
 pub record IsGivenSeen (gives : List ℕ → Option (List ℕ) → Type 0) (journal : List ℕ) (opening : DayOpening) (day : Day) (sight : Sight) : Type 0 where
   pub before : Option (List ℕ)
   pub given : gives journal before

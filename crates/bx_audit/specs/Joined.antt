@@ -1,19 +1,19 @@
--- Private: events and sales one after another, with what was captured of them.
+-- Private: events one after another, and what amends the plan, with what was captured of them.
 use Rattle.std.proofs.Common.{ℕ, Bool, List, [], ◌∷◌, ◌++◌, refl, sym, ap, ◌∙◌, subst, append_assoc, Option}
-use Rattle.bx_events.specs.Events.{LiveEvent, OnLink, WithoutLink, Sold, HeardByRulesTwo}
+use Rattle.bx_events.specs.Events.{LiveEvent, OnLink, WithoutLink, Amended, HeardByRulesTwo}
 use Rattle.bx_capture.specs.Keeping.{keeps_nil, keeps_more}
 use Rattle.bx_day.specs.Day.{Day}
 use Rattle.bx_day.specs.Outages.{live_happens}
 use Rattle.bx_day_openings.specs.Going.{GoesFrom}
 use Rattle.bx_day_openings.specs.Joined.{goes_nothing, goes_more}
-use Rattle.bx_day_openings.specs.declared.reselling.SaleFault.{SaleFault}
+use Rattle.bx_day_openings.specs.declared.amending.AmendmentFault.{AmendmentFault}
 use Rattle.bx_audit.specs.Followed.{Taken, IsTaken, IsRecaptured, taken_from, HasRecaptured}
 use Rattle.bx_audit.specs.LiveCaptures.{live_packets_for, CapturesThrough}
 use Rattle.bx_audit.specs.declared.following.Recaptured.{Recaptured}
 
 captures_more : (channels : List Bool) (first : ℕ) (xs ys : List LiveEvent) (a b c : Day) (os ps : List ℕ) → CapturesThrough channels first xs a b os → CapturesThrough channels first ys b c ps → CapturesThrough channels first (xs ++ ys) a c (os ++ ps)
 captures_more channels first [] ys a b c os ps (same, none) more = subst (λ (l : List ℕ). CapturesThrough channels first ys a c (l ++ ps)) (sym none) (subst (λ (d : Day). CapturesThrough channels first ys d c ps) same more)
-captures_more channels first (Sold line ∷ xs) ys a b c os ps (sold, is, rest) more = (sold, is, captures_more channels first xs ys sold b c os ps rest more)
+captures_more channels first (Amended kind line ∷ xs) ys a b c os ps (amended, is, rest) more = (amended, is, captures_more channels first xs ys amended b c os ps rest more)
 captures_more channels first (OnLink event ∷ xs) ys a b c os ps (later, are, rest) more =
     (later ++ ps, ap (λ (l : List ℕ). l ++ ps) are ∙ append_assoc (live_packets_for first a (OnLink event)) later ps, captures_more channels first xs ys (live_happens a (OnLink event)).day b c later ps rest more)
 captures_more channels first (HeardByRulesTwo came ∷ xs) ys a b c os ps (later, are, rest) more =
@@ -32,17 +32,17 @@ module _ {W : Type 0} (contents : W → Option (List ℕ)) where
     kept = keeps_more contents a.file b.file c.file p.octets q.octets p.kept q.kept;
   }
 
-  pub followed_nothing : (channels : List Bool) (sale : Option SaleFault) (a : Taken W) → IsRecaptured contents channels channels sale sale a [] a
-  followed_nothing channels sale a = (refl, goes_nothing (IsTaken contents channels) (λ (t : Taken W). t.day) channels (nothing_taken channels) sale a)
+  pub followed_nothing : (channels : List Bool) (fault : Option AmendmentFault) (a : Taken W) → IsRecaptured contents channels channels fault fault a [] a
+  followed_nothing channels fault a = (refl, goes_nothing (IsTaken contents channels) (λ (t : Taken W). t.day) channels (nothing_taken channels) fault a)
 
-  pub followed_on : (cs cs1 cs2 : List Bool) (s s1 s2 : Option SaleFault) (a b c : Taken W) (xs ys : List LiveEvent) → IsRecaptured contents cs cs1 s s1 a xs b → IsRecaptured contents cs1 cs2 s1 s2 b ys c → IsRecaptured contents cs cs2 s s2 a (xs ++ ys) c
+  pub followed_on : (cs cs1 cs2 : List Bool) (s s1 s2 : Option AmendmentFault) (a b c : Taken W) (xs ys : List LiveEvent) → IsRecaptured contents cs cs1 s s1 a xs b → IsRecaptured contents cs1 cs2 s1 s2 b ys c → IsRecaptured contents cs cs2 s s2 a (xs ++ ys) c
   followed_on cs cs1 cs2 s s1 s2 a b c xs ys (same, p) (again, q) =
       let on = subst (λ (x : List Bool). GoesFrom (IsTaken contents x) (λ (t : Taken W). t.day) x s1 b ys c s2) same q in
       (again ∙ same, goes_more (IsTaken contents cs) (λ (t : Taken W). t.day) cs (taken_more cs) a b c xs ys s s1 s2 p on)
 
   -- the same of what follows a journal
   pub recaptured_nothing : (a : Recaptured W) → HasRecaptured contents a [] a
-  recaptured_nothing a = followed_nothing a.channels a.sale (taken_from a)
+  recaptured_nothing a = followed_nothing a.channels a.fault (taken_from a)
 
   pub recaptured_on : (a b c : Recaptured W) (xs ys : List LiveEvent) → HasRecaptured contents a xs b → HasRecaptured contents b ys c → HasRecaptured contents a (xs ++ ys) c
-  recaptured_on a b c xs ys p q = followed_on a.channels b.channels c.channels a.sale b.sale c.sale (taken_from a) (taken_from b) (taken_from c) xs ys p q
+  recaptured_on a b c xs ys p q = followed_on a.channels b.channels c.channels a.fault b.fault c.fault (taken_from a) (taken_from b) (taken_from c) xs ys p q

@@ -5,6 +5,7 @@ pub mod Audits
 pub mod AuditRefusals
 pub mod Recorded
 pub mod Unrecorded
+pub mod HeldRows
 pub mod PlansOfDays
 pub mod LastPlans
 pub mod Unsold

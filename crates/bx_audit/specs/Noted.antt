@@ -2,7 +2,7 @@
 use Rattle.std.specs.Prelude.{ℕ, ◌+◌, List, [], ◌∷◌, nat_lt, if◌then◌else◌}
 use Rattle.bx_day_chart.specs.Outages.{noted}
 use Rattle.bx_day_chart.specs.declared.outages.Outage.{Outage}
-use Rattle.bx_events.specs.Events.{Tick, Receive, LiveEvent, OnLink, WithoutLink, Sold, HeardByRulesTwo}
+use Rattle.bx_events.specs.Events.{Tick, Receive, LiveEvent, OnLink, WithoutLink, Amended, HeardByRulesTwo}
 use Rattle.bx_events.specs.declared.moment.TheConstants.{LAST_MOMENT}
 
 -- the moment after this one; a day has no more than 300,000
@@ -19,7 +19,7 @@ outages_from m [] outages = outages
 outages_from m (OnLink Tick ∷ events) outages = outages_from (next_moment m) events outages
 outages_from m (OnLink (Receive octets) ∷ events) outages = outages_from m events outages
 outages_from m (WithoutLink rules ∷ events) outages = outages_from (next_moment m) events (noted_at m outages)
-outages_from m (Sold line ∷ events) outages = outages_from m events outages
+outages_from m (Amended kind line ∷ events) outages = outages_from m events outages
 outages_from m (HeardByRulesTwo octets ∷ events) outages = outages_from m events outages
 
 -- the outages of a day with just these events

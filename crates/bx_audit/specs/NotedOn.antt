@@ -1,7 +1,7 @@
 -- Private: outages that are noted, and days that are followed with them, one after another.
 use Rattle.std.proofs.Common.{◌≡◌, ◌∙◌, ℕ, List, [], ◌∷◌, ◌++◌, refl, ap, ap₂, sym}
 use Rattle.bx_day_chart.specs.declared.outages.Outage.{Outage}
-use Rattle.bx_events.specs.Events.{Tick, Receive, LiveEvent, OnLink, WithoutLink, Sold, HeardByRulesTwo}
+use Rattle.bx_events.specs.Events.{Tick, Receive, LiveEvent, OnLink, WithoutLink, Amended, HeardByRulesTwo}
 use Rattle.bx_day_openings.specs.Joined.{after_nothing, after_more}
 use Rattle.bx_audit.specs.Chartings.{HasFollowed}
 use Rattle.bx_audit.specs.Noted.{next_moment, noted_at, outages_from}
@@ -14,7 +14,7 @@ outages_more m [] ys os = refl
 outages_more m (OnLink Tick ∷ xs) ys os = outages_more (next_moment m) xs ys os
 outages_more m (OnLink (Receive octets) ∷ xs) ys os = outages_more m xs ys os
 outages_more m (WithoutLink rules ∷ xs) ys os = outages_more (next_moment m) xs ys (noted_at m os)
-outages_more m (Sold line ∷ xs) ys os = outages_more m xs ys os
+outages_more m (Amended kind line ∷ xs) ys os = outages_more m xs ys os
 outages_more m (HeardByRulesTwo octets ∷ xs) ys os = outages_more m xs ys os
 
 moment_more : (m : ℕ) (xs ys : List LiveEvent) → moment_after m (xs ++ ys) ≡ moment_after (moment_after m xs) ys
@@ -22,7 +22,7 @@ moment_more m [] ys = refl
 moment_more m (OnLink Tick ∷ xs) ys = moment_more (next_moment m) xs ys
 moment_more m (OnLink (Receive octets) ∷ xs) ys = moment_more m xs ys
 moment_more m (WithoutLink rules ∷ xs) ys = moment_more (next_moment m) xs ys
-moment_more m (Sold line ∷ xs) ys = moment_more m xs ys
+moment_more m (Amended kind line ∷ xs) ys = moment_more m xs ys
 moment_more m (HeardByRulesTwo octets ∷ xs) ys = moment_more m xs ys
 
 noted_nothing : (a : Noting) → IsNoted a [] a

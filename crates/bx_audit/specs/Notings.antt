@@ -1,6 +1,6 @@
 -- Private: outages while they are noted.
 use Rattle.std.specs.Prelude.{◌≡◌, ℕ, true, List, [], ◌∷◌}
-use Rattle.bx_events.specs.Events.{Tick, Receive, LiveEvent, OnLink, WithoutLink, Sold, HeardByRulesTwo}
+use Rattle.bx_events.specs.Events.{Tick, Receive, LiveEvent, OnLink, WithoutLink, Amended, HeardByRulesTwo}
 use Rattle.bx_audit.specs.Noted.{next_moment, outages_from, noted_at}
 use Rattle.bx_audit.specs.declared.noting.Noting.{Noting}
 
@@ -10,7 +10,7 @@ moment_after m [] = m
 moment_after m (OnLink Tick ∷ events) = moment_after (next_moment m) events
 moment_after m (OnLink (Receive octets) ∷ events) = moment_after m events
 moment_after m (WithoutLink rules ∷ events) = moment_after (next_moment m) events
-moment_after m (Sold line ∷ events) = moment_after m events
+moment_after m (Amended kind line ∷ events) = moment_after m events
 moment_after m (HeardByRulesTwo octets ∷ events) = moment_after m events
 
 -- none yet, at moment 0

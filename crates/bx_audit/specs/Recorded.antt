@@ -14,7 +14,7 @@ use Rattle.bx_records.specs.Totals.{totals_text}
 use Rattle.bx_records.specs.Writing.{IsRecorded}
 use Rattle.bx_request.specs.declared.request.RecordsRequest.{RecordsRequest}
 
--- the day of that plan, after just the events and sales of the journal that another input gave
+-- the day of that plan, after just the events and amendments of the journal that another input gave
 pub record IsDayTold (gives : List ℕ → Option (List ℕ) → Type 0) (plan journal : List ℕ) (channels : List Bool) (day : Day) : Type 0 where
   pub opened : Day
   pub digest : List ℕ

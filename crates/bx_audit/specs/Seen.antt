@@ -8,7 +8,7 @@ use Rattle.bx_journal.specs.declared.head.Wanted.{Wanted}
 use Rattle.bx_day_openings.specs.Selling.{day_goes}
 use Rattle.bx_audit.specs.Noted.{outages_in}
 
--- just the events of a journal happened, each of its sales was sold again where it stands, and these are the outages of its link
+-- just the events of a journal happened, what amends the plan was done again where it stands, and these are the outages of its link
 pub record IsSeenThrough (channels : List Bool) (wanted : Wanted) (before : Option (List ℕ)) (opened day : Day) (outages : List Outage) : Type 0 where
   pub events : List LiveEvent
   pub journal : IsJournal wanted before events

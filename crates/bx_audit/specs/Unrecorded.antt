@@ -6,7 +6,7 @@ use Rattle.bx_day.specs.Day.{Day}
 use Rattle.bx_day_openings.specs.OpeningRefusals.{IsNoOpening}
 use Rattle.bx_day_openings.specs.Recording.{IsClockOf, IsNoClock, answer_for}
 use Rattle.bx_day_openings.specs.declared.fault.DayCommandFault.{DayCommandFault}
-use Rattle.bx_day_openings.specs.declared.fault.DayCommandFault.TheVariants.{Command, Journal, Sale}
+use Rattle.bx_day_openings.specs.declared.fault.DayCommandFault.TheVariants.{Command, Journal, Amendment}
 use Rattle.bx_devices.specs.Devices.{Writing, writing_of}
 use Rattle.bx_devices.specs.declared.watched.Watched.{Watched}
 use Rattle.bx_journal.specs.Heads.{of_any_day}
@@ -15,18 +15,18 @@ use Rattle.bx_records.specs.Writing.{IsRecordsRefusal}
 use Rattle.bx_records.specs.declared.fault.RecordsFault.{RecordsFault}
 use Rattle.bx_request.specs.declared.request.RecordsRequest.{RecordsRequest}
 use Rattle.bx_day_openings.specs.JournalRefusals.{IsNoJournalText}
-use Rattle.bx_day_openings.specs.Replays.{HasBadSale}
+use Rattle.bx_day_openings.specs.Replays.{HasBadAmendment}
 use Rattle.bx_day_openings.specs.TiedDays.{IsOpeningOf}
 use Rattle.bx_audit.specs.Recorded.{IsDayTold}
 
--- the input of this name is not read, or just this is the first fault of the text that it gave, or it has a sale that is none
+-- the input of this name is not read, or just this is the first fault of the text that it gave, or it has a line that amends the plan and is none of its day
 abbrev pub IsNoJournalOf : (List ℕ → Option (List ℕ) → Type 0) → List ℕ → List ℕ → List Bool → Day → DayCommandFault → Type 0
 IsNoJournalOf gives name plan channels opened (Journal (BadLine n)) = (before : Option (List ℕ)) × gives name before × IsNoJournalText (of_any_day plan) before (BadLine n)
 IsNoJournalOf gives name plan channels opened (Journal OtherPlan) = (before : Option (List ℕ)) × gives name before × IsNoJournalText (of_any_day plan) before OtherPlan
 IsNoJournalOf gives name plan channels opened (Journal OtherDay) = (before : Option (List ℕ)) × gives name before × IsNoJournalText (of_any_day plan) before OtherDay
 IsNoJournalOf gives name plan channels opened (Journal OtherRules) = (before : Option (List ℕ)) × gives name before × IsNoJournalText (of_any_day plan) before OtherRules
 IsNoJournalOf gives name plan channels opened (Command (CannotRead n)) = n.now ≡ name
-IsNoJournalOf gives name plan channels opened (Sale why) = (before : Option (List ℕ)) × gives name before × HasBadSale channels (of_any_day plan) before opened why
+IsNoJournalOf gives name plan channels opened (Amendment why) = (before : Option (List ℕ)) × gives name before × HasBadAmendment channels (of_any_day plan) before opened why
 IsNoJournalOf gives name plan channels opened _ = ⊥
 
 -- there is no proved plan, or one, and no journal of it

@@ -65,7 +65,7 @@ fn tied_through<'a, H: Files + AllocGlobal + Eprint, I: Inputs>(
     Ok(tied)
 }
 
-/// The exchange after the events and sales of a journal of this name, and whether the file took all that was to be captured.
+/// The exchange after the events and amendments of a journal of this name, and whether the file took all that was to be captured.
 fn audited_into<'a, R: Read + Drop, W: Write + Drop>(
     alloc: Global,
     name: &'a str,
@@ -82,7 +82,7 @@ fn audited_into<'a, R: Read + Drop, W: Write + Drop>(
     Ok((exchange, is_whole(&file)))
 }
 
-/// The exchange after the events and sales of the journal in a file, and whether all that was to be captured of its day was.
+/// The exchange after the events and amendments of the journal in a file, and whether all that was to be captured of its day was.
 fn audited_in<'a, H: Files + AllocGlobal + Eprint, I: Inputs>(
     rt: &H,
     inputs: &mut I,
@@ -105,7 +105,7 @@ fn audited_in<'a, H: Files + AllocGlobal + Eprint, I: Inputs>(
 /// the output failed a prefix of what was to be told was.
 ///
 /// What is needed is opened in this order, and the first fault of it is answered: `Day` or `Capture` for the date and the zone of
-/// the capture; `Command` for the plan; `Command`, as `CannotRead`, `Journal`, as `BadLine`, `OtherPlan` or `OtherRules`, or `Sale` for the
+/// the capture; `Command` for the plan; `Command`, as `CannotRead`, `Journal`, as `BadLine`, `OtherPlan` or `OtherRules`, or `Amendment` for the
 /// journal; `CannotWriteFile` for the file of the capture. `Command`, as `CannotWrite`, is the fault of the output, and
 /// `CannotWriteFile` that of a capture that was not written whole.
 pub fn audit_files<'a, H: Files + AllocGlobal + Eprint, I: Inputs, W: Write>(

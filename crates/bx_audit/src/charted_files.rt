@@ -30,7 +30,7 @@ struct SeenDay {
     sight: DaySight,
 }
 
-/// The day of this opening after just the events and sales of the journal of an input.
+/// The day of this opening after just the events and amendments of the journal of an input.
 fn seen_from<'a, I: Inputs>(
     alloc: Global,
     inputs: &mut I,
@@ -57,7 +57,7 @@ fn seen_from<'a, I: Inputs>(
     })
 }
 
-/// The day of the plan of one input after just the events and sales of the journal of another.
+/// The day of the plan of one input after just the events and amendments of the journal of another.
 fn day_seen<'a, I: Inputs>(
     alloc: Global,
     inputs: &mut I,
@@ -100,7 +100,7 @@ fn draw<'a, W: Write>(
 /// which it has come while a booking waits or is live. At a refusal nothing was written, except that where the output failed a prefix of the picture was.
 ///
 /// What is needed is opened in this order, and the first fault of it is answered: `Day` for the date and the zone; `Command` for the plan; `Command`, as
-/// `CannotRead`, `Journal`, as `BadLine`, `OtherPlan` or `OtherRules`, or `Sale` for the journal. Then `Command`, as `Memory`, where memory ran out, and
+/// `CannotRead`, `Journal`, as `BadLine`, `OtherPlan` or `OtherRules`, or `Amendment` for the journal. Then `Command`, as `Memory`, where memory ran out, and
 /// as `CannotWrite`, where the output failed.
 pub fn chart_day_files<'a, I: Inputs, W: Write>(
     alloc: Global,

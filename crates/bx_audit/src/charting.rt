@@ -46,8 +46,8 @@ pub(crate) struct Seen {
     pub(crate) outages: Outages,
 }
 
-/// The exchange after the events of a journal of this name, with the outages of its link; what it says was sold is sold again, on the
-/// channels in service. It is read once, in pieces. It is refused as `replay_journal` refuses it, or as `Command`, by `Memory`, where
+/// The exchange after the events of a journal of this name, with the outages of its link; what it says amends the plan is done
+/// again, on the channels in service. It is read once, in pieces. It is refused as `replay_journal` refuses it, or as `Command`, by `Memory`, where
 /// memory ran out as an outage was noted.
 pub(crate) fn seen_by<'a, R: Read>(
     alloc: Global,

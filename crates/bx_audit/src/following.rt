@@ -2,28 +2,29 @@
 
 ghost use Rattle.std.specs.Prelude.{◌≡◌, ◌∷◌, [], None};
 ghost use Rattle.bx_audit.specs.Followed.{IsCapturedLive, HasRecaptured};
-ghost use Rattle.bx_events.specs.Events.{OnLink, Tick, Receive, Sold, HeardByRulesTwo};
+ghost use Rattle.bx_events.specs.Events.{OnLink, Tick, Receive, Amended, HeardByRulesTwo};
 ghost use Rattle.bx_journal.specs.Events.{logged_event};
 
 use bx_base::ChannelSet;
 use bx_capture::{Captured, Direction, keep, keep_reply};
 use bx_day::Exchange;
-use bx_day_openings::{SaleFault, resell};
+use bx_day_openings::{AmendmentFault, amend_again};
+use bx_events::Amendment;
 use bx_frames::End;
 use bx_journal::{Follower, LoggedEvent};
 use bx_q931::Octets;
 use std::alloc::Global;
 use std::io::Write;
 
-/// An exchange to which the events of a journal happen, and which sells again what the journal says was sold; and the file, if there is
-/// one, into which the packets of its messages are written as they were on their day: what it sends for an event is known by the events
-/// before. From the first sale on that is none it stays as it was there, with why.
+/// An exchange to which the events of a journal happen, and whose plan is amended again as the journal says; and the file, if there is one, into
+/// which the packets of its messages are written as they were on their day: what it sends for an event is known by the events before. From the first
+/// line on that amends the plan and is none of its day it stays as it was there, with why.
 #[derive(Drop)]
 pub(crate) struct Recaptured<W: Write> {
     pub(crate) alloc: Global,
     pub(crate) channels: ChannelSet,
     pub(crate) captured: Captured<Exchange, W>,
-    pub(crate) sale: Option<SaleFault>,
+    pub(crate) fault: Option<AmendmentFault>,
 }
 
 /// A second on the link.
@@ -53,24 +54,25 @@ fn hear_by_rules_two<W: Write>(captured: &mut Captured<Exchange, W>, octets: &Oc
 }
 
 impl<W: Write> Recaptured<W> {
-    /// Sells again what a line says was sold, where nothing was wrong yet.
-    fn take(&mut self, line: &[u8])
-        ensures { self.old.sale ≡ None → HasRecaptured W.contents self.old (Sold line.now ∷ []) self.new }
+    /// Does again what a line says became of a booking, where nothing was wrong yet.
+    fn take(&mut self, kind: Amendment, line: &[u8])
+        ensures { self.old.fault ≡ None → HasRecaptured W.contents self.old (Amended kind line.now ∷ []) self.new }
     {
-        if let Err(fault) = resell(self.alloc, &mut self.captured.end, self.channels, line) {
-            self.sale = Some(fault);
+        let exchange = &mut self.captured.end;
+        if let Err(fault) = amend_again(self.alloc, exchange, self.channels, kind, line) {
+            self.fault = Some(fault);
         }
     }
 
     /// The next event happens, where nothing was wrong yet.
     fn go_on(&mut self, event: &LoggedEvent)
-        ensures { self.old.sale ≡ None → HasRecaptured W.contents self.old (logged_event event.now ∷ []) self.new }
+        ensures { self.old.fault ≡ None → HasRecaptured W.contents self.old (logged_event event.now ∷ []) self.new }
     {
         match event {
             LoggedEvent::Tick => pass_second(&mut self.captured),
             LoggedEvent::Heard(octets) => hear_one(&mut self.captured, octets),
             LoggedEvent::Down(rules) => self.captured.end.second_without_link(*rules),
-            LoggedEvent::Sold(line) => self.take(line),
+            LoggedEvent::Amended(kind, line) => self.take(*kind, line),
             LoggedEvent::HeardByRulesTwo(octets) => hear_by_rules_two(&mut self.captured, octets),
         }
     }
@@ -83,7 +85,7 @@ impl<W: Write> Follower for Recaptured<W> {
     ghost followed = { λ a events b. HasRecaptured W.contents a events b };
 
     fn follow(&mut self, event: &LoggedEvent) {
-        if self.sale.is_none() {
+        if self.fault.is_none() {
             self.go_on(event);
         }
     }

@@ -1,30 +1,39 @@
 //! The last plan of a day.
 
-ghost use Rattle.std.specs.Prelude.{◌≡◌, ℕ, not, map, IfOk};
+ghost use Rattle.std.specs.Prelude.{◌≡◌, ℕ, not, map, length, IfOk};
+ghost use Rattle.bx_base.specs.Bookings.{pay_of};
 ghost use Rattle.bx_base.specs.PlanParts.{parts_of};
+ghost use Rattle.bx_base.specs.Plans.{is_accepted};
 ghost use Rattle.bx_colour.specs.Colouring.{FitsChannels};
 ghost use Rattle.bx_day.specs.Invariant.{is_refused};
 ghost use Rattle.bx_planner.specs.Musts.{IsTooManyMust};
-ghost use Rattle.bx_sales.specs.Selling.{rows_of, marks_of};
-ghost use Rattle.bx_audit.specs.PlansOfDays.{ArePrices, IsPlanOfDay};
+ghost use Rattle.bx_sales.specs.Selling.{marks_of};
+ghost use Rattle.bx_audit.specs.HeldRows.{row_held};
+ghost use Rattle.bx_audit.specs.PlansOfDays.{rows_held_on, ArePrices, IsPlanOfDay};
 
-use bx_base::{Bookings, ChannelSet, Plan, Price};
+use bx_base::{Booking, Bookings, ChannelSet, Plan, Price};
+use bx_channels::Channel;
 use bx_colour::colour;
 use bx_day::{Entry, Exchange, Standing};
 use bx_planner::{NoPlan, plan};
 use std::alloc::{AllocError, Global};
 
-/// The bookings of these entries.
-fn rows_in(alloc: Global, entries: &[Entry]) -> Result<Bookings, AllocError>
-    ensures { IfOk result (λ b. b ≡ map (λ e. e.booking) entries.now) }
+/// A booking as a plan has it that accepts it, or refuses it: no plan has to hold what was given up.
+fn as_held(booking: &Booking, accepted: bool) -> Booking
+    ensures { result ≡ row_held booking.now accepted }
 {
-    let mut rows = Bookings::new(alloc);
-    for index in 0..entries.len() {
-        if rows.push(entries[index].booking).is_err() {
-            return Err(AllocError);
-        }
+    if accepted {
+        return *booking;
     }
-    Ok(rows)
+    let (start, end) = (booking.start(), booking.end());
+    let Some(free) = Booking::new(start, end, booking.pay(), booking.number()) else {
+        unreachable!()
+    };
+    if booking.is_inward() {
+        free.as_inward()
+    } else {
+        free
+    }
 }
 
 fn is_accepted(standing: Standing) -> bool
@@ -34,6 +43,21 @@ fn is_accepted(standing: Standing) -> bool
         Standing::Refused => false,
         _ => true,
     }
+}
+
+/// The bookings of these entries, of which none that is refused has to be held.
+fn rows_in(alloc: Global, entries: &[Entry]) -> Result<Bookings, AllocError>
+    ensures { IfOk result (λ b. b ≡ map (λ e. row_held e.booking (not (is_refused e.standing))) entries.now) }
+{
+    let mut rows = Bookings::new(alloc);
+    for index in 0..entries.len() {
+        let entry = &entries[index];
+        let held = as_held(&entry.booking, is_accepted(entry.standing));
+        if rows.push(held).is_err() {
+            return Err(AllocError);
+        }
+    }
+    Ok(rows)
 }
 
 /// Which of these are accepted.
@@ -47,40 +71,51 @@ fn marks_in(alloc: Global, entries: &[Entry]) -> Result<Vec<bool>, AllocError>
     Ok(marks)
 }
 
-/// The prices that prove a best plan of these bookings, and what that earns.
-fn prices_of(
-    alloc: Global,
-    rows: &Bookings,
-    channels: ChannelSet,
-) -> Result<(Vec<Price>, u64), AllocError>
+/// What the accepted rows pay together.
+fn total_pay(rows: &Bookings, assigned: &[Option<Channel>]) -> u64
+    requires { length assigned.now ≡ length rows.now }
+    ensures { result ≡ pay_of rows.now (is_accepted assigned.now) }
+{
+    let mut total = 0;
+    for i in 0..rows.len() {
+        if assigned[i as usize].is_some() {
+            total += rows.nth(i).pay();
+        }
+    }
+    total
+}
+
+/// The prices that prove a best plan of these bookings.
+fn prices_of(alloc: Global, rows: &Bookings, channels: ChannelSet) -> Result<Vec<Price>, AllocError>
     requires { (t : ℕ) → IsTooManyMust rows.now channels t → ⊥ }
-    ensures { IfOk result (λ p. ArePrices rows.now channels p.0.items p.1) }
+    ensures { IfOk result (λ prices. ArePrices rows.now channels prices.items) }
 {
     match plan(alloc, rows, channels) {
         Ok(best) => {
-            let Plan { prices, total, .. } = best;
-            Ok((prices, total))
+            let Plan { prices, .. } = best;
+            Ok(prices)
         }
         Err(NoPlan::TooManyMust(_)) => unreachable!(),
         Err(NoPlan::Memory) => Err(AllocError),
     }
 }
 
-/// The last plan of a day: its bookings, with the channels of first fit for those that it has accepted, and the prices of a best plan of them. At no moment
-/// may more of them run, or have to be held, than there are channels. `AllocError` where memory runs out.
+/// The last plan of a day: its bookings, with the channels of first fit for those that it has accepted, what these pay, and the prices of a best plan of all.
+/// None that is refused has to be held. At no moment may more of them run, or have to be held, than there are channels. `AllocError` where memory runs out.
 pub(crate) fn last_plan(
     alloc: Global,
     exchange: &Exchange,
     channels: ChannelSet,
 ) -> Result<Plan, AllocError>
-    requires fits { FitsChannels (rows_of exchange.now) (marks_of exchange.now) channels }
-    requires room { (t : ℕ) → IsTooManyMust (rows_of exchange.now) channels t → ⊥ }
+    requires fits { FitsChannels (rows_held_on exchange.now) (marks_of exchange.now) channels }
+    requires room { (t : ℕ) → IsTooManyMust (rows_held_on exchange.now) channels t → ⊥ }
     ensures { IfOk result (λ p. IsPlanOfDay exchange.now channels (parts_of p)) }
 {
     let rows = rows_in(alloc, exchange.entries())?;
     let marks = marks_in(alloc, exchange.entries())?;
     let assigned = colour(alloc, &rows, &marks, channels)?;
-    let (prices, total) = prices_of(alloc, &rows, channels)?;
+    let prices = prices_of(alloc, &rows, channels)?;
+    let total = total_pay(&rows, &assigned);
     match Plan::new(rows, channels, assigned, prices, total) {
         Some(plan) => Ok(plan),
         None => Err(AllocError),

@@ -59,7 +59,8 @@ impl Noting {
                 self.note();
                 self.pass();
             }
-            LoggedEvent::Heard(_) | LoggedEvent::Sold(_) | LoggedEvent::HeardByRulesTwo(_) => {}
+            LoggedEvent::Heard(_) | LoggedEvent::Amended(_, _) | LoggedEvent::HeardByRulesTwo(_) =>
+                {}
         }
     }
 

@@ -54,7 +54,7 @@ fn write_and_tell<'a, W: Write, E: Write>(
 /// except that where the output failed a prefix of the records was.
 ///
 /// What is needed is opened in this order, and the first fault of it is answered: `Day` for the date and the zone; `Command` for
-/// the plan; `Command`, as `CannotRead`, `Journal`, as `BadLine`, `OtherPlan` or `OtherRules`, or `Sale` for the journal. Then `Day`, as
+/// the plan; `Command`, as `CannotRead`, `Journal`, as `BadLine`, `OtherPlan` or `OtherRules`, or `Amendment` for the journal. Then `Day`, as
 /// `OutOfRange`, where a moment lies after the last that can be named; `Command`, as `Memory`, where memory ran out, and as
 /// `CannotWrite`, where the output failed.
 pub fn record_files<'a, I: Inputs, W: Write, E: Write>(

@@ -16,12 +16,12 @@ use bx_journal::{JournalFault, Wanted, read_journal};
 use std::alloc::Global;
 use std::io::{Read, Write};
 
-/// The exchange after just the events and sales of a journal of this name, from the opening of the day of its plan on.
+/// The exchange after just the events of a journal of this name and what amends its plan, from the opening of the day of its plan on.
 /// A journal that was not begun has no event. Where there is a file, it takes the packets of what was sent and heard, as it took
 /// them on the day of the journal; moment 0 is the first second, which is at most `LAST_START`. The journal is read in pieces,
 /// so it may be of any length.
 ///
-/// `Sale` where a sale that stands in it is none of its day; else `Journal`, as `BadLine`, `OtherPlan` or `OtherRules`, where what was read is no
+/// `Amendment` where a line of it that amends the plan is none of its day; else `Journal`, as `BadLine`, `OtherPlan` or `OtherRules`, where what was read is no
 /// journal of the plan, of whatever day, or `Command`, as `CannotRead` of that name, where a read failed.
 pub fn audited_day<'a, R: Read, W: Write + Drop>(
     alloc: Global,
@@ -48,19 +48,23 @@ pub fn audited_day<'a, R: Read, W: Write + Drop>(
         alloc,
         channels,
         captured,
-        sale: None,
+        fault: None,
     };
     let wanted = Wanted::of_any_day(&digest);
     let whole = read_journal(journal, &wanted, &mut recaptured);
-    let Recaptured { captured, sale, .. } = recaptured;
+    let Recaptured {
+        captured,
+        fault,
+        ..
+    } = recaptured;
     let Captured {
         end,
         file: kept,
         first: _,
     } = captured;
     *file = kept;
-    if let Some(fault) = sale {
-        return Err(DayCommandFault::Sale(fault));
+    if let Some(fault) = fault {
+        return Err(DayCommandFault::Amendment(fault));
     }
     journal_read(name, whole)?;
     Ok(end)

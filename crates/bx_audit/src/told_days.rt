@@ -19,7 +19,7 @@ pub(crate) struct ToldDay {
     pub(crate) channels: ChannelSet,
 }
 
-/// The exchange after just the events and sales of the journal of an input, from this opening on.
+/// The exchange after just the events and amendments of the journal of an input, from this opening on.
 fn told_from<'a, I: Inputs>(
     alloc: Global,
     inputs: &mut I,
@@ -40,7 +40,7 @@ fn told_from<'a, I: Inputs>(
     })
 }
 
-/// The exchange after just the events and sales of the journal of one input, from the opening of the day of the plan of another on.
+/// The exchange after just the events and amendments of the journal of one input, from the opening of the day of the plan of another on.
 pub(crate) fn told_by<'a, I: Inputs>(
     alloc: Global,
     inputs: &mut I,

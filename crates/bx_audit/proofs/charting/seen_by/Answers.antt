@@ -20,7 +20,7 @@ returns-in_err-exchange-clause-refused g c =
     let p = err_from_is_err_and c.from_residual.result c.from_residual.ensures.1 in
     rw (p.1, p.2)
     (bad_sale HasFollowed (is_faulted read.new.device) before after c.args.wanted.now a b c.args.channels c.args.exchange b.selling.exchange fault
-    (λ events h. stopped c.args.channels c.args.exchange fresh.result b.selling fresh.ensures.channels fresh.ensures.exchange fresh.ensures.sale events h.0 fault c.in_err-exchange.ensures.stopped) read.result read.ensures.read)
+    (λ events h. stopped c.args.channels c.args.exchange fresh.result b.selling fresh.ensures.channels fresh.ensures.exchange fresh.ensures.fault events h.0 fault c.in_err-exchange.ensures.stopped) read.result read.ensures.read)
 
 pub returns-in_err-journal_read-clause-refused : goal.returns-in_err-journal_read-clause-refused
 returns-in_err-journal_read-clause-refused g c =
@@ -44,7 +44,7 @@ returns-clause-through g c =
     let b = read.new.follower in
     let before = g.R.Read.remaining (device_of c.args.journal.now) in
     let after = g.R.Read.remaining (device_of read.new.device) in
-    let followed = followed_as HasFollowed (SeenGoes channels) (λ (x : Charting). x) (is_faulted read.new.device) before after wanted a b (λ events h. goes_seen channels a b fresh.ensures.channels fresh.ensures.sale c.in_ok-exchange.ensures.whole.0 events h) read.result read.ensures.read in
+    let followed = followed_as HasFollowed (SeenGoes channels) (λ (x : Charting). x) (is_faulted read.new.device) before after wanted a b (λ events h. goes_seen channels a b fresh.ensures.channels fresh.ensures.fault c.in_ok-exchange.ensures.whole.0 events h) read.result read.ensures.read in
     let whole = followed_whole (SeenGoes channels) (is_faulted read.new.device) before after wanted a b c.args.name read.result c.journal_read.result c.journal_read.ensures followed in
     seen_through channels wanted before c.args.exchange c.in_ok-exchange.exchange a b c.in_ok-outages.outages.spans.items c.journal_read.result c.in_ok-journal_read.field-0 c.in_ok-journal_read.was
     fresh.ensures.exchange c.new-2.ensures c.in_ok-exchange.ensures.whole.1 c.in_ok-outages.ensures.0 c.in_ok-outages.ensures.1 whole

@@ -2,7 +2,7 @@ use Rattle.std.proofs.Common.{◌≡◌, List, ℕ, Bool, Option, Some, Result, 
 use Rattle.std.specs.Prelude.{IfErr}
 use Rattle.std.proofs.lemmas.Result.{err_from_is_err_and}
 use Rattle.bx_day_openings.specs.Followed.{IsFollowedWhole}
-use Rattle.bx_day_openings.specs.Replays.{HasBadSale, IsNoReplay}
+use Rattle.bx_day_openings.specs.Replays.{HasBadAmendment, IsNoReplay}
 use Rattle.bx_day_openings.specs.declared.fault.DayCommandFault.{DayCommandFault}
 use Rattle.bx_day_openings.specs.declared.fault.DayCommandFault.TheVariants.{Journal}
 use Rattle.bx_devices.specs.Watching.{device_of, is_faulted}
@@ -13,7 +13,7 @@ use Rattle.bx_journal.proofs.AnyDay.{never_other_day}
 use Rattle.bx_day_openings.specs.JournalRefusals.{IsNoJournal}
 use Rattle.bx_day_openings.proofs.ToldJournals.{not_followed, followed_whole}
 use Rattle.bx_day_openings.proofs.Replays.{followed_as, bad_sale, no_replay}
-use Rattle.bx_day_openings.specs.declared.reselling.SaleFault.{SaleFault}
+use Rattle.bx_day_openings.specs.declared.amending.AmendmentFault.{AmendmentFault}
 use Rattle.bx_audit.specs.Audits.{IsKeptSoFar}
 use Rattle.bx_audit.specs.Followed.{Taken, IsTaken, taken_of}
 use Rattle.bx_audit.proofs.Audited.{audited, kept_so_far, same_taken, followed_some, taken_whole, taken_to, stopped_day}
@@ -29,9 +29,9 @@ returns-in-Some-clause-refused g c =
     let a = taken_of first.end first.file first.first in
     let b = taken_of end.captured.end end.captured.file end.captured.first in
     let opens : a ≡ taken_of o.exchange c.args.file.now c.args.first = same_taken first.end o.exchange first.file c.args.file.now first.first c.args.first c.new-captured.ensures.end (c.new-captured.ensures.file ∙ c.take.ensures.value) c.new-captured.ensures.first in
-    subst (λ (w : Wanted). HasBadSale o.channels w before o.exchange c.in-Some.fault) c.of_any_day-wanted.ensures
+    subst (λ (w : Wanted). HasBadAmendment o.channels w before o.exchange c.in-Some.fault) c.of_any_day-wanted.ensures
     (bad_sale _ (is_faulted read.new.device) before (g.R.Read.remaining (device_of read.new.device)) c.of_any_day-wanted.result _ end o.channels o.exchange end.captured.end c.in-Some.fault
-    (λ events h. stopped_day g.W.Write.contents o.channels o.channels end.channels None end.sale a b c.args.first c.args.file.now o.exchange refl refl opens events h c.in-Some.fault c.in-Some.is) read.result read.ensures.read)
+    (λ events h. stopped_day g.W.Write.contents o.channels o.channels end.channels None end.fault a b c.args.first c.args.file.now o.exchange refl refl opens events h c.in-Some.fault c.in-Some.is) read.result read.ensures.read)
 
 pub returns-in-Some-clause-kept : goal.returns-in-Some-clause-kept
 returns-in-Some-clause-kept g c =
@@ -44,8 +44,8 @@ returns-in-Some-clause-kept g c =
     let b = taken_of end.captured.end end.captured.file end.captured.first in
     let opens : a ≡ taken_of o.exchange c.args.file.now c.args.first = same_taken first.end o.exchange first.file c.args.file.now first.first c.args.first c.new-captured.ensures.end (c.new-captured.ensures.file ∙ c.take.ensures.value) c.new-captured.ensures.first in
     let some = followed_some _ (is_faulted read.new.device) before (g.R.Read.remaining (device_of read.new.device)) c.of_any_day-wanted.result _ end read.result read.ensures.read in
-    let stop = taken_to g.W.Write.contents o.channels o.channels end.channels None end.sale a b c.args.first c.args.file.now o.exchange refl refl opens some.0 some.1 c.in-Some.fault c.in-Some.is in
-    kept_so_far g.W.Write.contents o.channels c.args.file.now c.args.first o.exchange stop.sale.before b stop.went
+    let stop = taken_to g.W.Write.contents o.channels o.channels end.channels None end.fault a b c.args.first c.args.file.now o.exchange refl refl opens some.0 some.1 c.in-Some.fault c.in-Some.is in
+    kept_so_far g.W.Write.contents o.channels c.args.file.now c.args.first o.exchange stop.amendment.before b stop.went
 
 pub returns-in_err-journal_read-clause-refused : goal.returns-in_err-journal_read-clause-refused
 returns-in_err-journal_read-clause-refused g c =
@@ -82,7 +82,7 @@ returns-in_err-journal_read-clause-any_day g c =
     (λ e. not_other c.args.name.now c.args.opening.digest c.of_any_day-wanted.result before after (is_faulted read.new.device) fault c.of_any_day-wanted.ensures
     (not_followed _ (is_faulted read.new.device) before after c.of_any_day-wanted.result _ read.new.follower c.args.name read.result (Err fault) c.in_err-journal_read.ensures read.ensures.read) (same_fault fault (Journal OtherDay) e))
 
-not_some : (s : Option SaleFault) → ((fault : SaleFault) → s ≡ Some fault → ⊥) → s ≡ None
+not_some : (s : Option AmendmentFault) → ((fault : AmendmentFault) → s ≡ Some fault → ⊥) → s ≡ None
 not_some None never = refl
 not_some (Some fault) never = absurd (never fault refl)
 
@@ -100,11 +100,11 @@ returns-in_err-journal_read-clause-kept g c =
     let a = taken_of first.end first.file first.first in
     let b = taken_of end.captured.end end.captured.file end.captured.first in
     let opens : a ≡ taken_of o.exchange c.args.file.now c.args.first = same_taken first.end o.exchange first.file c.args.file.now first.first c.args.first c.new-captured.ensures.end (c.new-captured.ensures.file ∙ c.take.ensures.value) c.new-captured.ensures.first in
-    let whole : end.sale ≡ None = not_some end.sale c.in_default.not-Some in
+    let whole : end.fault ≡ None = not_some end.fault c.in_default.not-Some in
     let some = followed_some _ (is_faulted read.new.device) before (g.R.Read.remaining (device_of read.new.device)) c.of_any_day-wanted.result _ end read.result read.ensures.read in
     on_err (IsKeptSoFar g.W.Write.contents o.channels c.args.file.now b.file c.args.first o.exchange) c.from_residual.result
     (kept_so_far g.W.Write.contents o.channels c.args.file.now c.args.first o.exchange some.0 b
-    (taken_whole g.W.Write.contents o.channels o.channels end.channels None end.sale a b c.args.first c.args.file.now o.exchange refl refl opens some.0 some.1 whole))
+    (taken_whole g.W.Write.contents o.channels o.channels end.channels None end.fault a b c.args.first c.args.file.now o.exchange refl refl opens some.0 some.1 whole))
 
 pub returns-clause-audited : goal.returns-clause-audited
 returns-clause-audited g c =
@@ -118,9 +118,9 @@ returns-clause-audited g c =
     let a = taken_of first.end first.file first.first in
     let b = taken_of end.captured.end end.captured.file end.captured.first in
     let opens : a ≡ taken_of o.exchange c.args.file.now c.args.first = same_taken first.end o.exchange first.file c.args.file.now first.first c.args.first c.new-captured.ensures.end (c.new-captured.ensures.file ∙ c.take.ensures.value) c.new-captured.ensures.first in
-    let whole : end.sale ≡ None = not_some end.sale c.in_default.not-Some in
+    let whole : end.fault ≡ None = not_some end.fault c.in_default.not-Some in
     let followed = followed_as _ (IsTaken contents o.channels) (λ x. taken_of x.captured.end x.captured.file x.captured.first) (is_faulted read.new.device) before after c.of_any_day-wanted.result _ end
-    (λ events h. taken_whole contents o.channels o.channels end.channels None end.sale a b first.first first.file first.end refl refl refl events h whole) read.result read.ensures.read in
+    (λ events h. taken_whole contents o.channels o.channels end.channels None end.fault a b first.first first.file first.end refl refl refl events h whole) read.result read.ensures.read in
     let all = followed_whole (IsTaken contents o.channels) (is_faulted read.new.device) before after c.of_any_day-wanted.result a b c.args.name read.result c.journal_read.result c.journal_read.ensures followed in
     audited contents o.digest o.channels before c.args.file.now c.args.first o.exchange b c.journal_read.result c.in_ok-journal_read.field-0 c.in_ok-journal_read.was
     (subst (λ (w : Wanted). OnOk c.journal_read.result (IsFollowedWhole (IsTaken contents o.channels) w before (taken_of o.exchange c.args.file.now c.args.first) b)) c.of_any_day-wanted.ensures
