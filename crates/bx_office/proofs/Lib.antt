@@ -2,3 +2,4 @@ pub mod Cuts
 pub mod HeadFields
 pub mod Verdicts
 pub mod Taken
+pub mod Sent

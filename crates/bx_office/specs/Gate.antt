@@ -4,10 +4,11 @@ use Rattle.std.specs.Str.{bytes_eq}
 use Rattle.bx_office.specs.Targets.{text_of, past, path_asked, host_asked}
 use Rattle.bx_office.specs.Hosts.{is_own_host, is_own_origin}
 use Rattle.bx_office.specs.Keys.{is_keyed}
+use Rattle.bx_office.specs.Rows.{IsPlanRow, booking_path}
 use Rattle.bx_office.specs.declared.gate.Place.{Place}
 use Rattle.bx_office.specs.declared.gate.Request.{Request}
 use Rattle.bx_office.specs.declared.gate.Route.{Route}
-use Rattle.bx_office.specs.declared.gate.Route.TheVariants.{Home, Script, Style, Bookings, Quote, Plan, Outcomes, Records, Chart, Metrics, Health, Ready, Office}
+use Rattle.bx_office.specs.declared.gate.Route.TheVariants.{Home, Script, Style, Bookings, Quote, Plan, Outcomes, Records, Chart, Metrics, Health, Ready, Office, Cancel, Change}
 use Rattle.bx_office.specs.declared.gate.Refusal.{Refusal}
 use Rattle.bx_office.specs.declared.gate.Refusal.TheVariants.{Doubled, OtherHost, OtherOrigin, UnknownMethod, NotFound, WrongMethod, NotCsv, Coded, NoLength, BadKey}
 
@@ -52,17 +53,41 @@ path_of Metrics = codes "/metrics"
 path_of Health = codes "/healthz"
 path_of Ready = codes "/ready"
 path_of Office = codes "*"
+path_of (Cancel row) = booking_path row
+path_of (Change row) = booking_path row
+
+abbrev pub HasPlanRow : Route → Type 0
+HasPlanRow (Cancel row) = IsPlanRow row
+HasPlanRow (Change row) = IsPlanRow row
+HasPlanRow _ = Unit {0}
+
+-- what stands at a path: each page, and each booking of a row of a plan
+abbrev pub StandsAt : Route → List ℕ → Type 0
+StandsAt route path = (path ≡ path_of route) × HasPlanRow route
+
+-- of two that stand at one path the first is told
+abbrev pub is_first : Route → Bool
+is_first (Cancel row) = false
+is_first _ = true
 
 -- the methods that HTTP has for what stands at a path (RFC 9110, section 9.3, and RFC 5789)
 abbrev pub is_known : List ℕ → Bool
 is_known method = bytes_eq method (codes "GET") || bytes_eq method (codes "HEAD") || bytes_eq method (codes "POST") || bytes_eq method (codes "PUT")
     || bytes_eq method (codes "DELETE") || bytes_eq method (codes "OPTIONS") || bytes_eq method (codes "TRACE") || bytes_eq method (codes "PATCH")
 
--- bookings are posted, the office as a whole is asked for its options, all else is got
+-- bookings are posted, a booking is deleted or put, the office as a whole is asked for its options, all else is got
 abbrev pub takes : Route → List ℕ → Bool
 takes Bookings method = bytes_eq method (codes "POST")
 takes Office method = bytes_eq method (codes "OPTIONS")
+takes (Cancel row) method = bytes_eq method (codes "DELETE")
+takes (Change row) method = bytes_eq method (codes "PUT")
 takes _ method = bytes_eq method (codes "GET") || bytes_eq method (codes "HEAD")
+
+-- what stands at its path has this method
+abbrev pub has_method : Route → List ℕ → Bool
+has_method (Cancel row) method = bytes_eq method (codes "DELETE") || bytes_eq method (codes "PUT")
+has_method (Change row) method = bytes_eq method (codes "DELETE") || bytes_eq method (codes "PUT")
+has_method route method = takes route method
 
 -- ---- what is sent
 
@@ -81,10 +106,12 @@ is_csv (Some content) = is_csv_type (past (codes "text/csv") content)
 
 abbrev pub is_typed : Route → Option (List ℕ) → Bool
 is_typed Bookings content = is_csv content
+is_typed (Change row) content = is_csv content
 is_typed _ content = true
 
 abbrev pub has_body : Route → Bool
 has_body Bookings = true
+has_body (Change row) = true
 has_body _ = false
 
 -- ---- the answer of the gate: just one fits each request
@@ -103,8 +130,14 @@ pub record IsMeant (place : Place) (q : Question) : Type 0 where
 -- .. and it asks for what is there, as that is asked for
 pub record IsAsked (place : Place) (q : Question) (route : Route) : Type 0 where
   pub meant : IsMeant place q
-  pub path : path_asked q.target ≡ path_of route
+  pub there : StandsAt route (path_asked q.target)
   pub taken : takes route q.method ≡ true
+
+-- .. and that has a body
+pub record IsSent (place : Place) (q : Question) : Type 0 where
+  pub route : Route
+  pub asked : IsAsked place q route
+  pub with_body : has_body route ≡ true
 
 -- what has a body says how long it is, it is not coded, and the key that it has is one
 abbrev pub is_bare : Route → Question → Bool
@@ -116,9 +149,9 @@ IsGated place q (Err Doubled) = q.is_doubled ≡ true
 IsGated place q (Err OtherHost) = (q.is_doubled ≡ false) × (is_own_host place (host_asked q.host q.target) ≡ false)
 IsGated place q (Err OtherOrigin) = (q.is_doubled ≡ false) × (is_own_host place (host_asked q.host q.target) ≡ true) × (is_own_origin place (host_asked q.host q.target) q.origin ≡ false)
 IsGated place q (Err UnknownMethod) = IsOwn place q × (is_known q.method ≡ false)
-IsGated place q (Err NotFound) = IsMeant place q × ((route : Route) → ¬ (path_asked q.target ≡ path_of route))
-IsGated place q (Err (WrongMethod route)) = IsMeant place q × (path_asked q.target ≡ path_of route) × (takes route q.method ≡ false)
-IsGated place q (Err NotCsv) = IsAsked place q Bookings × (is_csv q.content ≡ false)
-IsGated place q (Err Coded) = IsAsked place q Bookings × (is_csv q.content ≡ true) × (q.is_coded ≡ true)
-IsGated place q (Err NoLength) = IsAsked place q Bookings × (is_csv q.content ≡ true) × (q.is_coded ≡ false) × (q.has_length ≡ false)
-IsGated place q (Err BadKey) = IsAsked place q Bookings × (is_csv q.content ≡ true) × (q.is_coded ≡ false) × (q.has_length ≡ true) × (is_keyed q.key ≡ false)
+IsGated place q (Err NotFound) = IsMeant place q × ((route : Route) → ¬ StandsAt route (path_asked q.target))
+IsGated place q (Err (WrongMethod route)) = IsMeant place q × StandsAt route (path_asked q.target) × (is_first route ≡ true) × (has_method route q.method ≡ false)
+IsGated place q (Err NotCsv) = IsSent place q × (is_csv q.content ≡ false)
+IsGated place q (Err Coded) = IsSent place q × (is_csv q.content ≡ true) × (q.is_coded ≡ true)
+IsGated place q (Err NoLength) = IsSent place q × (is_csv q.content ≡ true) × (q.is_coded ≡ false) × (q.has_length ≡ false)
+IsGated place q (Err BadKey) = IsSent place q × (is_csv q.content ≡ true) × (q.is_coded ≡ false) × (q.has_length ≡ true) × (is_keyed q.key ≡ false)

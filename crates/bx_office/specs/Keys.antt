@@ -1,5 +1,5 @@
 -- The key of a request: 1 to 64 visible octets of ASCII, without `"` and `\`, in quotes or not.
-use Rattle.std.specs.Prelude.{ℕ, ◌-◌, ◌==◌, ◌&&◌, nat_le, not, if◌then◌else◌, Bool, true, false, List, [], ◌∷◌, ◌++◌, length, replicate, slice_range, slice_index_or, Option, Some, None, is_some}
+use Rattle.std.specs.Prelude.{ℕ, ◌-◌, ◌==◌, ◌&&◌, nat_le, not, if◌then◌else◌, Bool, true, List, [], ◌∷◌, ◌++◌, length, replicate, slice_range, slice_index_or, Option, Some, None, is_some}
 
 abbrev pub is_key_octet : ℕ → Bool
 is_key_octet c = nat_le 33 c && (nat_le c 126 && (not (c == 34) && not (c == 92)))

@@ -3,6 +3,8 @@ pub mod Origins
 pub mod Hosts
 pub mod Keys
 pub mod KeyInside
+pub mod Rows
+pub mod RowPaths
 pub mod Gate
 pub mod Heads
 pub mod Replies

@@ -8,7 +8,7 @@ use Rattle.http1.specs.declared.error.ReadError.TheVariants as Read
 use Rattle.bx_office.specs.declared.gate.Refusal.{Refusal}
 use Rattle.bx_office.specs.declared.gate.Refusal.TheVariants.{Doubled, OtherHost, OtherOrigin, UnknownMethod, NotFound, WrongMethod, NotCsv, Coded, NoLength, BadKey}
 use Rattle.bx_office.specs.declared.gate.Route.{Route}
-use Rattle.bx_office.specs.declared.gate.Route.TheVariants.{Bookings, Office}
+use Rattle.bx_office.specs.declared.gate.Route.TheVariants.{Bookings, Office, Cancel, Change}
 use Rattle.bx_office.specs.declared.reply.Status.{Status}
 use Rattle.bx_office.specs.declared.reply.Status.TheVariants as Statuses
 use Rattle.bx_office.specs.declared.reply.Allowed.{Allowed}
@@ -30,6 +30,8 @@ refusal_status BadKey = Statuses.BadRequest
 abbrev pub methods_of : Route → Allowed
 methods_of Bookings = Methods.Post
 methods_of Office = Methods.Options
+methods_of (Cancel row) = Methods.Change
+methods_of (Change row) = Methods.Change
 methods_of _ = Methods.Get
 
 abbrev pub refusal_allowed : Refusal → Allowed

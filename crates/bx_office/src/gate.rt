@@ -1,13 +1,15 @@
 //! Which requests are let through, and where they go.
 
-ghost use Rattle.std.specs.Prelude.{◌≡◌, ◌≤◌, true, length, IfSome, IfNone};
+ghost use Rattle.std.specs.Prelude.{◌≡◌, ◌≤◌, ℕ, List, true, length, IfSome, IfNone};
 ghost use Rattle.std.specs.Str.{bytes_eq};
 ghost use Rattle.bx_office.specs.Targets.{text_of};
-ghost use Rattle.bx_office.specs.Gate.{path_of, takes, is_known, ends_type, is_csv, is_csv_type, is_typed, has_body, question_of, IsGated};
+ghost use Rattle.bx_office.specs.Gate.{StandsAt, is_first, takes, has_method, is_known, ends_type, is_csv, is_csv_type, is_typed, has_body, question_of, IsGated};
+ghost use Rattle.bx_office.specs.RowPaths.{IsRowPath};
 
 use crate::hosts::{is_own_host, is_own_origin};
 use crate::keys::is_keyed;
 use crate::origins::Origin;
+use crate::rows::row_in;
 use crate::targets::{local_path, named_host, past, path_in};
 
 /// Where the office is opened.
@@ -52,6 +54,10 @@ pub enum Route {
     Ready,
     /// `OPTIONS *`: which methods there are at all (RFC 9110, section 9.3.7).
     Office,
+    /// `DELETE /bookings/N`: that the booking of this row of the plan is given up.
+    Cancel(u16),
+    /// `PUT /bookings/N`: that the booking of this row of the plan becomes this one, as CSV.
+    Change(u16),
 }
 
 /// Why a request is refused. The first that applies is answered, in this order.
@@ -67,7 +73,7 @@ pub enum Refusal {
     UnknownMethod,
     /// 404: there is no such path.
     NotFound,
-    /// 405: what stands there is not asked for so.
+    /// 405: what stands there is not asked for so. A booking is told by its change.
     WrongMethod(Route),
     /// 415: bookings that are not `text/csv`.
     NotCsv,
@@ -101,10 +107,21 @@ fn is_word(text: &[u8], word: &str) -> bool
     text == word.as_bytes()
 }
 
-/// What stands at a path.
+/// The booking that stands at a path.
+fn booking_at(path: &[u8]) -> Option<Route>
+    ensures some { IfSome result (λ route. StandsAt route path.now × (is_first route ≡ true)) }
+    ensures none { IfNone result ((row : ℕ) → ¬ IsRowPath row path.now) }
+{
+    match row_in(path) {
+        Some(row) => Some(Route::Change(row)),
+        None => None,
+    }
+}
+
+/// What stands at a path, or the first of it.
 fn route_at(path: &[u8]) -> Option<Route>
-    ensures some { IfSome result (λ route. path.now ≡ path_of route) }
-    ensures none { IfNone result ((route : Route) → ¬ (path.now ≡ path_of route)) }
+    ensures some { IfSome result (λ route. StandsAt route path.now × (is_first route ≡ true)) }
+    ensures none { IfNone result ((route : Route) → ¬ StandsAt route path.now) }
 {
     if is_word(path, "/") {
         Some(Route::Home)
@@ -133,7 +150,7 @@ fn route_at(path: &[u8]) -> Option<Route>
     } else if is_word(path, "*") {
         Some(Route::Office)
     } else {
-        None
+        booking_at(path)
     }
 }
 
@@ -159,7 +176,32 @@ impl Route {
         match self {
             Route::Bookings => is_word(method, "POST"),
             Route::Office => is_word(method, "OPTIONS"),
+            Route::Cancel(_) => is_word(method, "DELETE"),
+            Route::Change(_) => is_word(method, "PUT"),
             _ => is_word(method, "GET") || is_word(method, "HEAD"),
+        }
+    }
+
+    /// Whether what stands at its path has this method.
+    fn has_method(self, method: &[u8]) -> bool
+        ensures { result ≡ has_method self method.now }
+    {
+        match self {
+            Route::Cancel(_) | Route::Change(_) => {
+                is_word(method, "DELETE") || is_word(method, "PUT")
+            }
+            _ => self.takes(method),
+        }
+    }
+
+    /// What is asked for by this method of what stands at its path.
+    fn by(self, method: &[u8]) -> Route
+        ensures there { (path : List ℕ) → StandsAt self path → StandsAt result path }
+        ensures taken { has_method self method.now ≡ true → is_first self ≡ true → takes result method.now ≡ true }
+    {
+        match self {
+            Route::Change(row) if is_word(method, "DELETE") => Route::Cancel(row),
+            _ => self,
         }
     }
 
@@ -168,7 +210,7 @@ impl Route {
         ensures { result ≡ has_body self }
     {
         match self {
-            Route::Bookings => true,
+            Route::Bookings | Route::Change(_) => true,
             _ => false,
         }
     }
@@ -178,7 +220,7 @@ impl Route {
         ensures { result ≡ is_typed self (text_of content.entry) }
     {
         match self {
-            Route::Bookings => is_csv(content),
+            Route::Bookings | Route::Change(_) => is_csv(content),
             _ => true,
         }
     }
@@ -240,12 +282,13 @@ pub fn let_through(place: Place, request: Request<'_>) -> Result<Route, Refusal>
     if !is_known(request.method) {
         return Err(Refusal::UnknownMethod);
     }
-    let Some(route) = route_at(local_path(path, absolute)) else {
+    let Some(first) = route_at(local_path(path, absolute)) else {
         return Err(Refusal::NotFound);
     };
-    if !route.takes(request.method) {
-        return Err(Refusal::WrongMethod(route));
+    if !first.has_method(request.method) {
+        return Err(Refusal::WrongMethod(first));
     }
+    let route = first.by(request.method);
     if !route.is_typed(request.content) {
         return Err(Refusal::NotCsv);
     }

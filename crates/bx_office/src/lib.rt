@@ -11,6 +11,7 @@ mod origins;
 mod pages;
 mod refusals;
 mod reply;
+mod rows;
 mod targets;
 
 pub use client::{Client, Stage};

@@ -52,6 +52,19 @@ const HOME: &str = "<!doctype html>
 </form>
 <p id=\"answer\" role=\"status\"></p>
 </section>
+<section aria-labelledby=\"waiting-title\">
+<h2 id=\"waiting-title\">Bookings that wait for their start</h2>
+<form id=\"search\">
+<p><label for=\"sought\">Row of the plan, or number; nothing for all</label>
+<input id=\"sought\" name=\"sought\" inputmode=\"numeric\" pattern=\"[0-9]{1,15}\" maxlength=\"15\" autocomplete=\"off\"></p>
+<p><button id=\"seek\" type=\"submit\">Show them</button></p>
+</form>
+<p id=\"told\" role=\"status\"></p>
+<div class=\"list\"><table>
+<thead><tr><th scope=\"col\">Row</th><th scope=\"col\">Cancel</th><th scope=\"col\">Number</th><th scope=\"col\">Start</th><th scope=\"col\">End</th><th scope=\"col\">Pay</th></tr></thead>
+<tbody id=\"waiting\"></tbody>
+</table></div>
+</section>
 </main>
 </body>
 </html>
@@ -69,6 +82,8 @@ const faults = {
   K1: \"The channels do not carry what is promised.\",
   K2: \"The plan has 16000 bookings already.\",
   Q1: \"At some moment of it other promises have all channels: no pay is enough.\",
+  NoBooking: \"No booking of this row is promised.\",
+  Late: \"It begins by now, and stands.\",
   Memory: \"The office has no memory left. Ask again.\",
 };
 const reasons = {
@@ -185,6 +200,51 @@ const show = async () => {
     at(\"health\").textContent = \"The office does not answer.\";
   }
 };
+// Of what waits for its start so much is shown at once.
+const MOST = 40;
+const waits = (fields, sought) => fields[7] === \"waiting\" && (sought === \"\" || fields[0] === sought || fields[2] === sought);
+const list = async () => {
+  const reply = await ask(\"/records\");
+  if (!reply.isFine) {
+    return inWords(reply.text);
+  }
+  const found = reply.text.split(\"\\n\").map((line) => line.split(\",\")).filter((fields) => waits(fields, at(\"sought\").value));
+  at(\"waiting\").replaceChildren(...found.slice(0, MOST).map(promised));
+  return found.length > MOST ? `${found.length} wait, of which ${MOST} are shown.` : `${found.length} wait.`;
+};
+const cancel = async (place) => {
+  const reply = await ask(`/bookings/${place}`, { method: \"DELETE\" });
+  return reply.isFine ? `Cancelled: row ${place} of the plan.` : inWords(reply.text);
+};
+const telling = async (asked) => {
+  at(\"told\").textContent = \"Asking the office ...\";
+  try {
+    at(\"told\").textContent = await asked();
+  } catch (fault) {
+    at(\"told\").textContent = \"The office does not answer. Ask again.\";
+  }
+};
+const promised = (fields) => {
+  const button = element(\"button\", \"Cancel\");
+  button.type = \"button\";
+  button.setAttribute(\"aria-label\", `Cancel row ${fields[0]}`);
+  button.addEventListener(\"click\", async () => {
+    if (!confirm(`Cancel the booking of row ${fields[0]} of the plan?`)) {
+      return;
+    }
+    button.disabled = true;
+    await telling(() => cancel(fields[0]));
+    list().catch(() => { button.disabled = false; });
+    show();
+  });
+  const made = row(fields[0], [\"\", fields[2], fields[4], fields[5], fields[6]]);
+  made.cells[1].append(button);
+  return made;
+};
+at(\"search\").addEventListener(\"submit\", (event) => {
+  event.preventDefault();
+  telling(list);
+});
 at(\"chart\").addEventListener(\"error\", () => { at(\"chart\").hidden = true; });
 at(\"chart\").addEventListener(\"load\", () => { at(\"chart\").hidden = false; });
 show();
@@ -196,7 +256,9 @@ const STYLE: &str =
 h1, h2 { line-height: 1.2; }
 main { display: grid; gap: 2rem; grid-template-columns: minmax(0, 1fr); }
 @media (min-width: 60rem) { main { grid-template-columns: minmax(0, 2fr) minmax(0, 1fr); } }
-.chart { overflow-x: auto; }
+.chart, .list { overflow-x: auto; }
+.list td { white-space: nowrap; }
+.list button { margin: 0; padding: 0.25rem 0.5rem; }
 .chart img { display: block; min-width: 40rem; width: 100%; }
 .chart img[hidden] { display: none; }
 table { border-collapse: collapse; margin: 1rem 0; width: 100%; }

@@ -32,6 +32,7 @@ fn methods_of(route: Route) -> Allowed
     match route {
         Route::Bookings => Allowed::Post,
         Route::Office => Allowed::Options,
+        Route::Cancel(_) | Route::Change(_) => Allowed::Change,
         _ => Allowed::Get,
     }
 }
@@ -57,6 +58,7 @@ fn refusal_words(refusal: Refusal) -> &'static str {
         Refusal::NotFound => "no such page\n",
         Refusal::WrongMethod(Route::Bookings) => "POST\n",
         Refusal::WrongMethod(Route::Office) => "OPTIONS\n",
+        Refusal::WrongMethod(Route::Cancel(_) | Route::Change(_)) => "DELETE, PUT\n",
         Refusal::WrongMethod(_) => "GET\n",
         Refusal::NotCsv => "bookings are text/csv\n",
         Refusal::Coded => "bookings are not coded\n",

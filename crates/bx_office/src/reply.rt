@@ -20,6 +20,7 @@ pub enum Status {
     NotFound,
     MethodNotAllowed,
     RequestTimeout,
+    Conflict,
     LengthRequired,
     ContentTooLarge,
     UriTooLong,
@@ -43,6 +44,7 @@ impl Status {
             Status::NotFound => 404,
             Status::MethodNotAllowed => 405,
             Status::RequestTimeout => 408,
+            Status::Conflict => 409,
             Status::LengthRequired => 411,
             Status::ContentTooLarge => 413,
             Status::UriTooLong => 414,
@@ -66,6 +68,7 @@ impl Status {
             Status::NotFound => "Not Found",
             Status::MethodNotAllowed => "Method Not Allowed",
             Status::RequestTimeout => "Request Timeout",
+            Status::Conflict => "Conflict",
             Status::LengthRequired => "Length Required",
             Status::ContentTooLarge => "Content Too Large",
             Status::UriTooLong => "URI Too Long",
@@ -119,6 +122,8 @@ pub enum Allowed {
     Get,
     /// `OPTIONS`.
     Options,
+    /// `DELETE` and `PUT`.
+    Change,
     /// All methods of the office.
     All,
     /// A body that is not coded.
@@ -207,7 +212,8 @@ fn allowed_field(allowed: Allowed) -> Header<'static>
         Allowed::Post => field("allow", "POST"),
         Allowed::Get => field("allow", "GET, HEAD"),
         Allowed::Options => field("allow", "OPTIONS"),
-        Allowed::All => field("allow", "GET, HEAD, POST, OPTIONS"),
+        Allowed::Change => field("allow", "DELETE, PUT"),
+        Allowed::All => field("allow", "GET, HEAD, POST, PUT, DELETE, OPTIONS"),
         Allowed::Uncoded => field("accept-encoding", "identity"),
     }
 }

@@ -1,4 +1,4 @@
-use Rattle.std.proofs.Common.{subst, Ok, Err, Result}
+use Rattle.std.proofs.Common.{subst, Result}
 use Rattle.bx_office.specs.Inside.{IsHeadTaken}
 use Rattle.bx_office.specs.declared.gate.Refusal.{Refusal}
 use Rattle.bx_office.specs.declared.gate.Route.{Route}
