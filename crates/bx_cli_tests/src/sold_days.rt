@@ -10,7 +10,7 @@ use std::fs;
 use std::test::Fail;
 
 /// A plan of another hand, which is proved and not first fit; and journals of it and of the plan in `two.txt`, two of them by the rules 2.
-static FILES: [(&str, &str); 17] = [
+static FILES: [(&str, &str); 26] = [
     (
         "hand.txt",
         "bx-plan 3\nchannels 1 2\nbookings 1\n0 60 5 1234 2 free out\nprices 0\ntotal 5\nend\n",
@@ -72,6 +72,42 @@ static FILES: [(&str, &str); 17] = [
         "empty.journal",
         "bx-journal 2 rules 3\nplan f1c4bdbd2170909011bcbfb1e2a2796df8052fa76528b23fbd4c6ad235334272\nday live 1577836800 1\ntick\n",
     ),
+    (
+        "amended.journal",
+        "bx-journal 2 rules 3\nplan 7c35ee9492f27e9c9fec6d438270c41290c5bc10066cef31da15ea69a39e4bae\nday live 1577836800 1\ntick\nheard 0802800107\ncancelled 2\nchanged 1 0 70 6 1234 - free out\nsold 12 18 2 55 - free out\n",
+    ),
+    (
+        "gone.journal",
+        "bx-journal 2 rules 3\nplan 7c35ee9492f27e9c9fec6d438270c41290c5bc10066cef31da15ea69a39e4bae\nday live 1577836800 1\ntick\ncancelled 3\n",
+    ),
+    (
+        "twice.journal",
+        "bx-journal 2 rules 3\nplan 7c35ee9492f27e9c9fec6d438270c41290c5bc10066cef31da15ea69a39e4bae\nday live 1577836800 1\ntick\ncancelled 2\ncancelled 2\n",
+    ),
+    (
+        "begun.journal",
+        "bx-journal 2 rules 3\nplan 7c35ee9492f27e9c9fec6d438270c41290c5bc10066cef31da15ea69a39e4bae\nday live 1577836800 1\ntick\ncancelled 1\n",
+    ),
+    (
+        "moved.journal",
+        "bx-journal 2 rules 3\nplan 7c35ee9492f27e9c9fec6d438270c41290c5bc10066cef31da15ea69a39e4bae\nday live 1577836800 1\ntick\nchanged 1 2 60 5 1234 - free out\n",
+    ),
+    (
+        "crowded.journal",
+        "bx-journal 2 rules 3\nplan 7c35ee9492f27e9c9fec6d438270c41290c5bc10066cef31da15ea69a39e4bae\nday live 1577836800 1\ntick\nsold 30 50 6 5678 - free out\nchanged 2 40 45 4 1234 - free in\n",
+    ),
+    (
+        "unnamed.journal",
+        "bx-journal 2 rules 3\nplan 7c35ee9492f27e9c9fec6d438270c41290c5bc10066cef31da15ea69a39e4bae\nday live 1577836800 1\ntick\ncancelled two\n",
+    ),
+    (
+        "unchanged.journal",
+        "bx-journal 2 rules 3\nplan 7c35ee9492f27e9c9fec6d438270c41290c5bc10066cef31da15ea69a39e4bae\nday live 1577836800 1\ntick\nchanged 2 nonsense\n",
+    ),
+    (
+        "cancelled_older.journal",
+        "bx-journal 2 rules 2\nplan 7c35ee9492f27e9c9fec6d438270c41290c5bc10066cef31da15ea69a39e4bae\nday live 1577836800 1\ntick\ncancelled 2\n",
+    ),
     ("same.journal", SAME),
 ];
 
@@ -84,7 +120,7 @@ const SAME: &str =
 
 /// What the journals tell of their days: of one by the rules 2 the same as of one by the rules 3, where these hear all alike, and where the
 /// far end lacks a call it is asked for, what each of them makes of it.
-static CASES: [Case; 26] = [
+static CASES: [Case; 37] = [
     (
         "audit @two.txt @sold.journal",
         Prints("1 live\n2 missed\n3 refused\n4 live\n5 waiting\nmaintenance none\n"),
@@ -135,6 +171,48 @@ static CASES: [Case; 26] = [
             "bx-plan 3\nchannels 1 2\nbookings 3\n0 60 5 1234 1 free out\n10 20 4 1234 2 free in\n15 20 1 77 - free out\nprices 1\n15 1\ntotal 9\nend\n",
         ),
     ),
+    (
+        "audit @two.txt @amended.journal",
+        Prints("1 live\n2 refused\n3 refused\n4 waiting\nmaintenance none\n"),
+    ),
+    (
+        "records @two.txt @amended.journal --quiet",
+        Prints(
+            "row,direction,number,channel,start,end,pay,outcome,from,until,seconds\n1,out,1234,1,0,70,6,live,1,,\n2,in,1234,,10,20,4,refused,,,\n3,out,77,,15,20,1,refused,,,\n4,out,55,2,12,18,2,waiting,,,\n",
+        ),
+    ),
+    (
+        "sold @two.txt @amended.journal",
+        Prints(
+            "bx-plan 3\nchannels 1 2\nbookings 4\n0 70 6 1234 1 free out\n10 20 4 1234 - free in\n15 20 1 77 - free out\n12 18 2 55 2 free out\nprices 1\n15 2\ntotal 8\nend\n",
+        ),
+    ),
+    ("audit @two.txt @gone.journal", Fails("bx: J14 NoBooking\n")),
+    (
+        "audit @two.txt @twice.journal",
+        Fails("bx: J14 NoBooking\n"),
+    ),
+    (
+        "audit @two.txt @begun.journal",
+        Fails("bx: J15 LateChange\n"),
+    ),
+    (
+        "audit @two.txt @moved.journal",
+        Fails("bx: J15 LateChange\n"),
+    ),
+    (
+        "audit @two.txt @crowded.journal",
+        Fails("bx: J12 NotCarried\n"),
+    ),
+    ("sold @two.txt @unnamed.journal", Fails("bx: J9 BadSale\n")),
+    (
+        "sold @two.txt @unchanged.journal",
+        Fails("bx: J9 BadSale\n"),
+    ),
+    (
+        "audit @two.txt @cancelled_older.journal",
+        Fails("bx: J1 BadLine 5\n"),
+    ),
     ("sold @one.txt @none.txt", Fails("bx: J1 BadLine 1\n")),
     (
         "audit @hand.txt @same.journal",
@@ -169,7 +247,7 @@ static CASES: [Case; 26] = [
 ];
 
 /// A day that goes on after what was sold, until its last booking is over; and days that do not go on.
-static LIVE: [Case; 8] = [
+static LIVE: [Case; 9] = [
     (
         "serve @two.txt --live --line 19809:19810 --date 2020-01-01 --journal @front.journal",
         Prints("1 missed\n2 missed\n3 refused\n4 missed\n5 missed\nmaintenance none\n"),
@@ -191,6 +269,10 @@ static LIVE: [Case; 8] = [
     (
         "serve @two.txt --live --line 19809:19810 --date 2020-01-01 --journal @late.journal",
         FailsForGood("bx: J10 LateSale\n"),
+    ),
+    (
+        "serve @two.txt --live --line 19809:19810 --date 2020-01-01 --journal @begun.journal",
+        FailsForGood("bx: J15 LateChange\n"),
     ),
     (
         "serve @two.txt --live --line 19809:19810 --date 2020-01-01 --journal @older.journal",

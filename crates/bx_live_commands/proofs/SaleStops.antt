@@ -1,7 +1,8 @@
 -- Why a run with sales is over before its end.
 use Rattle.std.proofs.Common.{◌≡◌, ℕ, Bool, true, false, List, [], ◌∷◌, Option, Some, None, Result, Ok, Err, refl, sym, subst, ap, is_some, ◌∙◌}
 use Rattle.bx_day.specs.Day.{Day}
-use Rattle.bx_events.specs.Events.{Sold, OnLink, WithoutLink, HeardByRulesTwo}
+use Rattle.bx_events.specs.Events.{Amended, OnLink, WithoutLink, HeardByRulesTwo}
+use Rattle.bx_events.specs.declared.amendment.Amendment.TheVariants.{Sold, Cancelled, Changed}
 use Rattle.bx_line_world.proofs.Apart.{starts_apart, lost_before}
 use Rattle.bx_line_world.proofs.Never.{never_ends}
 use Rattle.bx_line_world.specs.Days.{GoesByLine}
@@ -18,9 +19,11 @@ use Rattle.bx_live.specs.declared.log.Log.{Log}
 use Rattle.bx_live.specs.declared.schedule.Schedule.{Schedule}
 use Rattle.bx_market.specs.declared.market.Answer.{Answer}
 use Rattle.bx_market.specs.declared.market.Request.{Request}
-use Rattle.bx_market.specs.Deals.{Deal, Ran, Asked, Answered, acts_of}
+use Rattle.bx_market.specs.declared.market.Request.TheVariants.{Sell, Cancel, Change}
+use Rattle.bx_market.specs.Deals.{Deal, Ran, Asked, Answered, ToldOfChange, acts_of}
+use Rattle.bx_sales.specs.declared.changing.NoChange.{NoChange}
 use Rattle.bx_market.specs.SaleRuns.{IsSaleRun, IsWholeSaleRun, IsBrokenRun}
-use Rattle.bx_market.specs.Stands.{Stand, Within, Filing, Telling, GoesByDeal, IsMarketRun}
+use Rattle.bx_market.specs.Stands.{Stand, Within, Filing, Telling, Changing, Noted, Kept, GoesByDeal, IsMarketRun}
 use Rattle.bx_office_door.specs.declared.wire.OfficeWire.{OfficeWire}
 use Rattle.bx_world.proofs.Kept.{Stops, stops}
 use Rattle.bx_journal_files.proofs.Going.{IsOver, GoesOn, goes_on}
@@ -33,6 +36,9 @@ abbrev IsOverAt : Stand → Type 0
 IsOverAt (Within p) = IsOver p
 IsOverAt (Filing shown d tag batch sold) = ⊥
 IsOverAt (Telling shown d tag batch sold) = ⊥
+IsOverAt (Changing shown request) = ⊥
+IsOverAt (Noted shown d request) = ⊥
+IsOverAt (Kept shown d request) = ⊥
 
 abbrev Fails : Act → Stand → Type 0
 Fails (Logged event false) to = (d : Day) × (to ≡ Within (Over d))
@@ -61,66 +67,91 @@ module _ (channels : List Bool) where
   over_none d [] to same = refl
   over_none d (Asked shown batch ∷ deals) to (mid, goes, rest) = absurd goes
   over_none d (Answered answers ∷ deals) to (mid, goes, rest) = absurd goes
+  over_none d (ToldOfChange answer ∷ deals) to (mid, goes, rest) = absurd goes
   over_none d (act ∷ deals) to (mid, (due, same), rest) = absurd due
 
   -- what cannot be logged, or on the disk, is the last act
   fails_at : (p : Stand) (act : Act) (to : Stand) → GoesByDeal channels p (Ran act) to → Fails act to
   fails_at (Within p) act to (due, same) = fails_within p act to (stops p act due) same
-  fails_at (Filing shown d tag batch sold) (Logged (Sold line) false) to goes = (d, goes)
+  fails_at (Filing shown d tag batch sold) (Logged (Amended Sold line) false) to goes = (d, goes)
+  fails_at (Filing shown d tag batch sold) (Logged (Amended Cancelled line) done) to goes = absurd goes
+  fails_at (Filing shown d tag batch sold) (Logged (Amended Changed line) done) to goes = absurd goes
   fails_at (Filing shown d tag batch sold) (Logged (OnLink event) done) to goes = absurd goes
   fails_at (Filing shown d tag batch sold) (Logged (WithoutLink rules) done) to goes = absurd goes
   fails_at (Filing shown d tag batch sold) (Logged (HeardByRulesTwo octets) done) to goes = absurd goes
   fails_at (Filing shown d tag batch sold) (Synced false) to goes = (d, goes)
   fails_at (Telling shown d tag batch sold) (Logged event false) to goes = absurd goes
   fails_at (Telling shown d tag batch sold) (Synced false) to goes = absurd goes
+  fails_at (Changing shown request) (Logged (Amended kind line) false) to goes = (shown, goes)
+  fails_at (Changing shown request) (Logged (OnLink event) done) to goes = absurd goes
+  fails_at (Changing shown request) (Logged (WithoutLink rules) done) to goes = absurd goes
+  fails_at (Changing shown request) (Logged (HeardByRulesTwo octets) done) to goes = absurd goes
+  fails_at (Changing shown request) (Synced false) to goes = absurd goes
+  fails_at (Noted shown d request) (Synced false) to goes = (d, goes)
+  fails_at (Noted shown d request) (Logged event false) to goes = absurd goes
+  fails_at (Kept shown d request) (Logged event false) to goes = absurd goes
+  fails_at (Kept shown d request) (Synced false) to goes = absurd goes
   fails_at p act to goes = tt
 
   -- after any other the run goes on
   goes_on_at : (p : Stand) (act : Act) (to : Stand) → GoesByDeal channels p (Ran act) to → GoesOnAt act to
   goes_on_at (Within p) act to (due, same) = on_within p act to (goes_on p act due) same
-  goes_on_at (Filing shown d tag batch sold) (Logged (Sold line) true) to (d1, is, under, same) = λ over. subst IsOverAt same over
-  goes_on_at (Filing shown d tag batch sold) (Logged (Sold line) false) to goes = tt
+  goes_on_at (Filing shown d tag batch sold) (Logged (Amended Sold line) true) to (d1, is, under, same) = λ over. subst IsOverAt same over
+  goes_on_at (Filing shown d tag batch sold) (Logged (Amended Sold line) false) to goes = tt
   goes_on_at (Filing shown d tag batch sold) (Synced true) to goes = λ over. subst IsOverAt goes over
   goes_on_at (Filing shown d tag batch sold) (Synced false) to goes = tt
+  goes_on_at (Changing shown request) (Logged (Amended kind line) true) to (d, is, tells, same) = λ over. subst IsOverAt same over
+  goes_on_at (Changing shown request) (Logged (Amended kind line) false) to goes = tt
+  goes_on_at (Noted shown d request) (Synced true) to goes = λ over. subst IsOverAt goes over
+  goes_on_at (Noted shown d request) (Synced false) to goes = tt
   goes_on_at p act to goes = absurd goes
 
   asked_on : (p : Stand) (shown : Day) (request : Option Request) (to : Stand) → GoesByDeal channels p (Asked shown request) to → IsOverAt to → ⊥
   asked_on (Within (Between d)) shown None to (is, same) over = subst IsOverAt same over
-  asked_on (Within (Between d)) shown (Some batch) to (is, same) over = subst IsOverAt same over
+  asked_on (Within (Between d)) shown (Some (Sell batch)) to (is, same) over = subst IsOverAt same over
+  asked_on (Within (Between d)) shown (Some (Cancel row)) to (is, same) over = subst IsOverAt same over
+  asked_on (Within (Between d)) shown (Some (Change row booking)) to (is, same) over = subst IsOverAt same over
   asked_on p shown batch to goes over = goes
 
   answered_on : (p : Stand) (answers : List Answer) (to : Stand) → GoesByDeal channels p (Answered answers) to → IsOverAt to → ⊥
   answered_on (Within p) answers to goes over = goes
   answered_on (Filing shown d tag batch sold) answers to (none, nothing, told, same) over = subst IsOverAt same over
   answered_on (Telling shown d tag batch sold) answers to (are, told, same) over = subst IsOverAt same over
+  answered_on p answers to goes over = goes
+
+  change_told_on : (p : Stand) (answer : Result (Unit {0}) NoChange) (to : Stand) → GoesByDeal channels p (ToldOfChange answer) to → IsOverAt to → ⊥
+  change_told_on (Changing shown request) (Err why) to (not, same) over = subst IsOverAt same over
+  change_told_on (Kept shown d request) (Ok done) to same over = subst IsOverAt same over
+  change_told_on p answer to goes over = goes
 
   module _ {D : Type 0} (holds may_leave : D → List ℕ → Type 0) (moment : D → ℕ) (left_since : D → ℕ → List ℕ → Type 0) (has_failed : D → Bool) where
-    abbrev Kept : Option D → Act → Option D → Type 0
-    Kept = OnLog holds may_leave moment left_since has_failed
+    abbrev OnItsLog : Option D → Act → Option D → Type 0
+    OnItsLog = OnLog holds may_leave moment left_since has_failed
 
     abbrev StoppedBy : List Act → Option D → Type 0
     StoppedBy = Stopped holds may_leave moment left_since has_failed
 
-    pub stopped_sale : (p : Stand) (d : Day) (deals : List Deal) (o after : Option D) → (IsOverAt p → ⊥) → IsMarketRun channels p deals (Within (Over d)) → Chain Kept o (acts_of deals) after → StoppedBy (acts_of deals) after
+    pub stopped_sale : (p : Stand) (d : Day) (deals : List Deal) (o after : Option D) → (IsOverAt p → ⊥) → IsMarketRun channels p deals (Within (Over d)) → Chain OnItsLog o (acts_of deals) after → StoppedBy (acts_of deals) after
     stopped_sale p d [] o after going same chain = absurd (going (subst IsOverAt (sym same) tt))
     stopped_sale p d (Asked shown batch ∷ deals) o after going (mid, goes, rest) chain = stopped_sale mid d deals o after (asked_on p shown batch mid goes) rest chain
     stopped_sale p d (Answered answers ∷ deals) o after going (mid, goes, rest) chain = stopped_sale mid d deals o after (answered_on p answers mid goes) rest chain
+    stopped_sale p d (ToldOfChange answer ∷ deals) o after going (mid, goes, rest) chain = stopped_sale mid d deals o after (change_told_on p answer mid goes) rest chain
     stopped_sale p d (Ran (Logged event false) ∷ deals) o after going (mid, goes, rest) chain =
         let f = fails_at p (Logged event false) mid goes in
         let none = over_none f.0 deals (Within (Over d)) (subst (λ (s : Stand). IsMarketRun channels s deals (Within (Over d))) f.1 rest) in
-        subst (λ (xs : List Act). StoppedBy (Logged event false ∷ xs) after) (sym none) (refused holds may_leave moment left_since has_failed event o after (subst (λ (xs : List Act). Chain Kept o (Logged event false ∷ xs) after) none chain))
+        subst (λ (xs : List Act). StoppedBy (Logged event false ∷ xs) after) (sym none) (refused holds may_leave moment left_since has_failed event o after (subst (λ (xs : List Act). Chain OnItsLog o (Logged event false ∷ xs) after) none chain))
     stopped_sale p d (Ran (Synced false) ∷ deals) o after going (mid, goes, rest) chain =
         let f = fails_at p (Synced false) mid goes in
         let none = over_none f.0 deals (Within (Over d)) (subst (λ (s : Stand). IsMarketRun channels s deals (Within (Over d))) f.1 rest) in
-        subst (λ (xs : List Act). StoppedBy (Synced false ∷ xs) after) (sym none) (unsynced holds may_leave moment left_since has_failed o after (subst (λ (xs : List Act). Chain Kept o (Synced false ∷ xs) after) none chain))
-    stopped_sale p d (Ran (Logged event true) ∷ deals) o after going (mid, goes, rest) chain = let c = chain_first Kept o after (Logged event true) (acts_of deals) chain in stopped_sale mid d deals c.0 after (goes_on_at p (Logged event true) mid goes) rest c.2
-    stopped_sale p d (Ran (Synced true) ∷ deals) o after going (mid, goes, rest) chain = let c = chain_first Kept o after (Synced true) (acts_of deals) chain in stopped_sale mid d deals c.0 after (goes_on_at p (Synced true) mid goes) rest c.2
-    stopped_sale p d (Ran (Began second begin) ∷ deals) o after going (mid, goes, rest) chain = let c = chain_first Kept o after (Began second begin) (acts_of deals) chain in stopped_sale mid d deals c.0 after (goes_on_at p (Began second begin) mid goes) rest c.2
-    stopped_sale p d (Ran (Dropped loss) ∷ deals) o after going (mid, goes, rest) chain = let c = chain_first Kept o after (Dropped loss) (acts_of deals) chain in stopped_sale mid d deals c.0 after (goes_on_at p (Dropped loss) mid goes) rest c.2
-    stopped_sale p d (Ran (Wrote octets done) ∷ deals) o after going (mid, goes, rest) chain = let c = chain_first Kept o after (Wrote octets done) (acts_of deals) chain in stopped_sale mid d deals c.0 after (goes_on_at p (Wrote octets done) mid goes) rest c.2
-    stopped_sale p d (Ran (Read room answer) ∷ deals) o after going (mid, goes, rest) chain = let c = chain_first Kept o after (Read room answer) (acts_of deals) chain in stopped_sale mid d deals c.0 after (goes_on_at p (Read room answer) mid goes) rest c.2
-    stopped_sale p d (Ran (Took message) ∷ deals) o after going (mid, goes, rest) chain = let c = chain_first Kept o after (Took message) (acts_of deals) chain in stopped_sale mid d deals c.0 after (goes_on_at p (Took message) mid goes) rest c.2
-    stopped_sale p d (Ran EndedDay ∷ deals) o after going (mid, goes, rest) chain = let c = chain_first Kept o after EndedDay (acts_of deals) chain in stopped_sale mid d deals c.0 after (goes_on_at p EndedDay mid goes) rest c.2
+        subst (λ (xs : List Act). StoppedBy (Synced false ∷ xs) after) (sym none) (unsynced holds may_leave moment left_since has_failed o after (subst (λ (xs : List Act). Chain OnItsLog o (Synced false ∷ xs) after) none chain))
+    stopped_sale p d (Ran (Logged event true) ∷ deals) o after going (mid, goes, rest) chain = let c = chain_first OnItsLog o after (Logged event true) (acts_of deals) chain in stopped_sale mid d deals c.0 after (goes_on_at p (Logged event true) mid goes) rest c.2
+    stopped_sale p d (Ran (Synced true) ∷ deals) o after going (mid, goes, rest) chain = let c = chain_first OnItsLog o after (Synced true) (acts_of deals) chain in stopped_sale mid d deals c.0 after (goes_on_at p (Synced true) mid goes) rest c.2
+    stopped_sale p d (Ran (Began second begin) ∷ deals) o after going (mid, goes, rest) chain = let c = chain_first OnItsLog o after (Began second begin) (acts_of deals) chain in stopped_sale mid d deals c.0 after (goes_on_at p (Began second begin) mid goes) rest c.2
+    stopped_sale p d (Ran (Dropped loss) ∷ deals) o after going (mid, goes, rest) chain = let c = chain_first OnItsLog o after (Dropped loss) (acts_of deals) chain in stopped_sale mid d deals c.0 after (goes_on_at p (Dropped loss) mid goes) rest c.2
+    stopped_sale p d (Ran (Wrote octets done) ∷ deals) o after going (mid, goes, rest) chain = let c = chain_first OnItsLog o after (Wrote octets done) (acts_of deals) chain in stopped_sale mid d deals c.0 after (goes_on_at p (Wrote octets done) mid goes) rest c.2
+    stopped_sale p d (Ran (Read room answer) ∷ deals) o after going (mid, goes, rest) chain = let c = chain_first OnItsLog o after (Read room answer) (acts_of deals) chain in stopped_sale mid d deals c.0 after (goes_on_at p (Read room answer) mid goes) rest c.2
+    stopped_sale p d (Ran (Took message) ∷ deals) o after going (mid, goes, rest) chain = let c = chain_first OnItsLog o after (Took message) (acts_of deals) chain in stopped_sale mid d deals c.0 after (goes_on_at p (Took message) mid goes) rest c.2
+    stopped_sale p d (Ran EndedDay ∷ deals) o after going (mid, goes, rest) chain = let c = chain_first OnItsLog o after EndedDay (acts_of deals) chain in stopped_sale mid d deals c.0 after (goes_on_at p EndedDay mid goes) rest c.2
 
 -- ---- how a run with sales has ended
 

@@ -44,9 +44,9 @@ fn opened_until(turns: u32, channels: ChannelSet, day: Day, clock: Option<DayClo
     }
 }
 
-/// Runs the rest of a day as `run_by_clock` does, and between two seconds answers who stands at the door: what is sold is logged, and on
-/// the disk, before its customer is told, and what starts after the last of these turns is not sold. Answers the exchange at the end of
-/// the day, with all that was sold. `CannotLog` where something cannot be logged, since the journal's disk has failed: nothing more is
+/// Runs the rest of a day as `run_by_clock` does, and between two seconds answers who stands at the door: what is sold, given up or
+/// changed is logged, and on the disk, before its customer is told, and what starts after the last of these turns is not sold. Answers the exchange at
+/// the end of the day, with all of that. `CannotLog` where something cannot be logged, since the journal's disk has failed: nothing more is
 /// done or told then.
 pub fn run_with_office<
     'a,

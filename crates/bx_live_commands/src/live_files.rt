@@ -139,7 +139,7 @@ fn run_live_day<'a, H: Host, I: Inputs>(
 /// What the day needs is opened in this order, and the first fault of it is answered: `Day` or `Capture` for the date and the zone;
 /// `Command` for the plan, and `LiveFault::NotFirstFit` where its channels are not those of first fit; `CannotListen` or `CannotConnect`
 /// for the line, `CannotListen` for the office, all others of these as `LiveFault::Day`; for the journal `CannotRecord` where it cannot be
-/// opened, `NotAFile` where it is no plain file, `InUse` where another program writes it, `LiveFault::Day`, as `Sale`, `Journal`
+/// opened, `NotAFile` where it is no plain file, `InUse` where another program writes it, `LiveFault::Day`, as `Amendment`, `Journal`
 /// (`BadLine`, `OtherPlan`, `OtherDay` or `OtherRules`) or `Command` (`CannotRead`), where it is none of this day, and `CannotRecord` where
 /// it cannot be made ready. `CannotRecord` is also answered where an event cannot be logged. At each of these nothing was written.
 /// `LiveFault::Day`, as `Command` (`CannotWrite`), is the fault of the output, of which a prefix was written then. `StillUp` where the day

@@ -10,8 +10,8 @@ use bx_channels::Number;
 use bx_day::Exchange;
 use bx_market::Answer;
 use bx_office_world::{
-    Figures, NoAnswer, call_of, metrics_text, outcomes_text, plan_text, quote_text, records_text,
-    sold_text,
+    Figures, NoAnswer, call_of, changed_text, metrics_text, outcomes_text, plan_text, quote_text,
+    records_text, sold_text,
 };
 use bx_planner::NoQuote;
 use bx_sales::NoSale;
@@ -68,9 +68,9 @@ static CASES: [Case; 5] = [
     },
 ];
 
-/// The last plan of each of these days: what was promised is must, and what was refused has room now.
+/// The last plan of each of these days: what was promised is must, on its channel, and what was refused is not taken, though it has room now.
 const PLAN: &str =
-    "bx-plan 3\nchannels 1 2 3\nbookings 3\n0 60 5 1234 1 must out\n30 40 5 1234 2 free out\n150 160 5 1234 1 must out\nprices 0\ntotal 15\nend\n";
+    "bx-plan 3\nchannels 1 2 3\nbookings 3\n0 60 5 1234 1 must out\n30 40 5 1234 - free out\n150 160 5 1234 2 must out\nprices 0\ntotal 10\nend\n";
 
 /// The exchange of a case.
 fn exchange_at(alloc: Global, steps: &[&[u8]], seconds: u32) -> Option<Exchange> {
@@ -444,5 +444,41 @@ fn is_sold(alloc: Global, batch: &Batch) -> bool {
 fn batches_are_told(rt: HostRuntime) {
     for batch in &BATCHES {
         assert!(rt; is_sold(rt.alloc(), batch), "{}", batch.name);
+    }
+}
+
+/// What is told of a change that was made: its name, whether the booking was given up, its row of the plan, and the text.
+type Changed = (&'static str, bool, u16, &'static str);
+
+static CHANGED: [Changed; 3] = [
+    (
+        "given up",
+        true,
+        1,
+        "row,answer,plan row,reason\n1,cancelled,1,\n",
+    ),
+    (
+        "changed",
+        false,
+        17,
+        "row,answer,plan row,reason\n1,changed,17,\n",
+    ),
+    (
+        "the last row",
+        false,
+        65535,
+        "row,answer,plan row,reason\n1,changed,65535,\n",
+    ),
+];
+
+#[test]
+fn changes_are_told(rt: HostRuntime) {
+    for changed in &CHANGED {
+        let told = changed_text(rt.alloc(), changed.1, changed.2);
+        assert!(rt;
+            told.is_ok_and(|text| text.as_slice() == changed.3.as_bytes()),
+            "{}",
+            changed.0
+        );
     }
 }

@@ -18,7 +18,7 @@ const COMMON: &[u8] =
 /// What the clock shows meanwhile, in nanoseconds.
 const SHOWN: u128 = 1_774_821_601_999_999_999;
 
-static CASES: [Case; 47] = [
+static CASES: [Case; 60] = [
     Case {
         name: "nothing",
         sent: "",
@@ -254,6 +254,71 @@ static CASES: [Case; 47] = [
         sent: "GET /plan FTP/2.0\r\nHost: localhost:8080\r\n\r\n",
         answer: "HTTP/1.1 400 Bad Request\r\n~vary: origin\r\nconnection: close\r\ncontent-length: 23\r\n\r\nno request of HTTP/1.1\n",
     },
+    Case {
+        name: "a booking cancelled, and a page behind it",
+        sent: "DELETE /bookings/17 HTTP/1.1\r\nHost: localhost:8080\r\n\r\nGET /plan HTTP/1.1\r\nHost: localhost:8080\r\n\r\n",
+        answer: "HTTP/1.1 200 OK\r\n~vary: origin\r\ncontent-length: 8\r\n\r\nCancel||HTTP/1.1 200 OK\r\n~vary: origin\r\ncontent-length: 6\r\n\r\nPlan||",
+    },
+    Case {
+        name: "a booking cancelled, with a body",
+        sent: "DELETE /bookings/17 HTTP/1.1\r\nHost: localhost:8080\r\nContent-Length: 3\r\n\r\nabcGET /plan HTTP/1.1\r\nHost: localhost:8080\r\n\r\n",
+        answer: "HTTP/1.1 200 OK\r\n~vary: origin\r\ncontent-length: 11\r\n\r\nCancel||abcHTTP/1.1 200 OK\r\n~vary: origin\r\ncontent-length: 6\r\n\r\nPlan||",
+    },
+    Case {
+        name: "a booking cancelled, with a key that is none",
+        sent: "DELETE /bookings/17 HTTP/1.1\r\nHost: localhost:8080\r\nIdempotency-Key: one two\r\n\r\n",
+        answer: "HTTP/1.1 200 OK\r\n~vary: origin\r\ncontent-length: 8\r\n\r\nCancel||",
+    },
+    Case {
+        name: "a booking changed, and a page behind it",
+        sent: "PUT /bookings/17 HTTP/1.1\r\nHost: localhost:8080\r\nContent-Type: text/csv\r\nContent-Length: 3\r\n\r\nabcGET /plan HTTP/1.1\r\nHost: localhost:8080\r\n\r\n",
+        answer: "HTTP/1.1 200 OK\r\n~vary: origin\r\ncontent-length: 11\r\n\r\nChange||abcHTTP/1.1 200 OK\r\n~vary: origin\r\ncontent-length: 6\r\n\r\nPlan||",
+    },
+    Case {
+        name: "a booking changed in chunks",
+        sent: "PUT /bookings/17 HTTP/1.1\r\nHost: localhost:8080\r\nContent-Type: text/csv\r\nTransfer-Encoding: chunked\r\n\r\n3\r\nabc\r\n0\r\n\r\n",
+        answer: "HTTP/1.1 200 OK\r\n~vary: origin\r\ncontent-length: 11\r\n\r\nChange||abc",
+    },
+    Case {
+        name: "a booking changed, which waits for leave",
+        sent: "PUT /bookings/17 HTTP/1.1\r\nHost: localhost:8080\r\nContent-Type: text/csv\r\nContent-Length: 3\r\nExpect: 100-continue\r\n\r\nabc",
+        answer: "HTTP/1.1 100 Continue\r\n\r\nHTTP/1.1 200 OK\r\n~vary: origin\r\ncontent-length: 11\r\n\r\nChange||abc",
+    },
+    Case {
+        name: "a booking changed, with a key that is none",
+        sent: "PUT /bookings/17 HTTP/1.1\r\nHost: localhost:8080\r\nContent-Type: text/csv\r\nIdempotency-Key: one two\r\nContent-Length: 3\r\n\r\nabc",
+        answer: "HTTP/1.1 400 Bad Request\r\n~vary: origin\r\nconnection: close\r\ncontent-length: 68\r\n\r\nthe Idempotency-Key is 1 to 64 visible characters, in quotes or not\n",
+    },
+    Case {
+        name: "a booking changed without a length",
+        sent: "PUT /bookings/17 HTTP/1.1\r\nHost: localhost:8080\r\nContent-Type: text/csv\r\n\r\n",
+        answer: "HTTP/1.1 411 Length Required\r\n~vary: origin\r\ncontent-length: 23\r\n\r\nbookings have a length\n",
+    },
+    Case {
+        name: "a booking changed by too long a body",
+        sent: "PUT /bookings/17 HTTP/1.1\r\nHost: localhost:8080\r\nContent-Type: text/csv\r\nContent-Length: 4194305\r\n\r\nabc",
+        answer: "HTTP/1.1 413 Content Too Large\r\n~vary: origin\r\nconnection: close\r\ncontent-length: 25\r\n\r\nmore than 4194304 octets\n",
+    },
+    Case {
+        name: "a booking changed by a form",
+        sent: "PUT /bookings/17 HTTP/1.1\r\nHost: localhost:8080\r\nContent-Type: text/plain\r\nContent-Length: 3\r\n\r\na=b",
+        answer: "HTTP/1.1 415 Unsupported Media Type\r\n~vary: origin\r\nconnection: close\r\ncontent-length: 22\r\n\r\nbookings are text/csv\n",
+    },
+    Case {
+        name: "a booking got",
+        sent: "GET /bookings/17 HTTP/1.1\r\nHost: localhost:8080\r\n\r\n",
+        answer: "HTTP/1.1 405 Method Not Allowed\r\n~allow: DELETE, PUT\r\ncontent-length: 12\r\n\r\nDELETE, PUT\n",
+    },
+    Case {
+        name: "a booking of row 0",
+        sent: "DELETE /bookings/0 HTTP/1.1\r\nHost: localhost:8080\r\n\r\n",
+        answer: "HTTP/1.1 404 Not Found\r\n~vary: origin\r\ncontent-length: 13\r\n\r\nno such page\n",
+    },
+    Case {
+        name: "a booking cancelled by another page",
+        sent: "DELETE /bookings/17 HTTP/1.1\r\nHost: localhost:8080\r\nOrigin: http://example.org\r\n\r\n",
+        answer: "HTTP/1.1 403 Forbidden\r\n~vary: origin\r\ncontent-length: 15\r\n\r\nanother origin\n",
+    },
 ];
 
 /// The sizes of the pieces in which octets come.
@@ -265,6 +330,8 @@ fn name_of(route: Route) -> &'static [u8] {
         Route::Bookings => b"Bookings|",
         Route::Quote => b"Quote|",
         Route::Plan => b"Plan|",
+        Route::Cancel(_) => b"Cancel|",
+        Route::Change(_) => b"Change|",
         _ => b"Outcomes|",
     }
 }

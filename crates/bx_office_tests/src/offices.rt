@@ -591,3 +591,190 @@ fn whether_a_call_could_be_carried_is_told(rt: HostRuntime) -> Result<(), Fail> 
     }
     Ok(())
 }
+
+/// Three bookings at once, one later, and one that begins with the day.
+static AMENDED_ROWS: [Row; 5] = [
+    (100, 200, 1, false),
+    (100, 200, 2, false),
+    (100, 200, 3, false),
+    (300, 400, 1, false),
+    (0, 60, 1, false),
+];
+
+/// A change that is asked for: the name of the case, the line of the request and its rest, how many lines are logged, how the answer begins, and
+/// how it ends.
+type Amended = (
+    &'static str,
+    &'static str,
+    &'static str,
+    u32,
+    &'static str,
+    &'static str,
+);
+
+static AMENDED: [Amended; 12] = [
+    (
+        "a booking cancelled",
+        "DELETE /bookings/1",
+        "\r\n",
+        1,
+        "HTTP/1.1 200 OK\r\ndate: Thu, 01 Jan 1970 00:00:01 GMT\r\ncontent-type: text/csv; charset=utf-8\r\n",
+        "\r\n\r\nrow,answer,plan row,reason\n1,cancelled,1,\n",
+    ),
+    (
+        "the last row cancelled",
+        "DELETE /bookings/4",
+        "\r\n",
+        1,
+        "HTTP/1.1 200 OK\r\ndate: Thu, 01 Jan 1970 00:00:01 GMT\r\ncontent-type: text/csv; charset=utf-8\r\n",
+        "\r\n\r\nrow,answer,plan row,reason\n1,cancelled,4,\n",
+    ),
+    (
+        "a row cancelled that is none",
+        "DELETE /bookings/6",
+        "\r\n",
+        0,
+        "HTTP/1.1 404 Not Found\r\n",
+        "\r\n\r\nNoBooking\n",
+    ),
+    (
+        "a booking cancelled that has begun",
+        "DELETE /bookings/5",
+        "\r\n",
+        0,
+        "HTTP/1.1 409 Conflict\r\n",
+        "\r\n\r\nLate\n",
+    ),
+    (
+        "a booking changed",
+        "PUT /bookings/4",
+        "Content-Type: text/csv\r\nContent-Length: 70\r\n\r\nstart,end,number,pay\n2026-01-05T00:05:00Z,2026-01-05T00:06:00Z,1234,5\n",
+        1,
+        "HTTP/1.1 200 OK\r\ndate: Thu, 01 Jan 1970 00:00:01 GMT\r\ncontent-type: text/csv; charset=utf-8\r\n",
+        "\r\n\r\nrow,answer,plan row,reason\n1,changed,4,\n",
+    ),
+    (
+        "a row changed that is none",
+        "PUT /bookings/6",
+        "Content-Type: text/csv\r\nContent-Length: 70\r\n\r\nstart,end,number,pay\n2026-01-05T00:05:00Z,2026-01-05T00:06:00Z,1234,5\n",
+        0,
+        "HTTP/1.1 404 Not Found\r\n",
+        "\r\n\r\nNoBooking\n",
+    ),
+    (
+        "a booking changed that begins now then",
+        "PUT /bookings/4",
+        "Content-Type: text/csv\r\nContent-Length: 70\r\n\r\nstart,end,number,pay\n2026-01-05T00:00:00Z,2026-01-05T00:06:00Z,1234,5\n",
+        0,
+        "HTTP/1.1 409 Conflict\r\n",
+        "\r\n\r\nLate\n",
+    ),
+    (
+        "a booking changed for which there is no channel",
+        "PUT /bookings/4",
+        "Content-Type: text/csv\r\nContent-Length: 70\r\n\r\nstart,end,number,pay\n2026-01-05T00:02:00Z,2026-01-05T00:03:00Z,1234,5\n",
+        0,
+        "HTTP/1.1 409 Conflict\r\n",
+        "\r\n\r\nNoChannel\n",
+    ),
+    (
+        "a booking changed that begins after the day then",
+        "PUT /bookings/4",
+        "Content-Type: text/csv\r\nContent-Length: 70\r\n\r\nstart,end,number,pay\n2026-01-05T00:10:01Z,2026-01-05T00:11:00Z,1234,5\n",
+        0,
+        "HTTP/1.1 409 Conflict\r\n",
+        "\r\n\r\nAfterTheDay\n",
+    ),
+    (
+        "a booking changed into two",
+        "PUT /bookings/4",
+        "Content-Type: text/csv\r\nContent-Length: 119\r\n\r\nstart,end,number,pay\n2026-01-05T00:05:00Z,2026-01-05T00:06:00Z,1234,5\n2026-01-05T00:05:00Z,2026-01-05T00:06:00Z,1234,5\n",
+        0,
+        "HTTP/1.1 400 Bad Request\r\n",
+        "\r\n\r\nnot one booking\n",
+    ),
+    (
+        "a booking changed into none",
+        "PUT /bookings/4",
+        "Content-Type: text/csv\r\nContent-Length: 21\r\n\r\nstart,end,number,pay\n",
+        0,
+        "HTTP/1.1 400 Bad Request\r\n",
+        "\r\n\r\nnot one booking\n",
+    ),
+    (
+        "a booking changed with a fault",
+        "PUT /bookings/4",
+        "Content-Type: text/csv\r\nContent-Length: 22\r\n\r\nstart,end,number,pay\nx",
+        0,
+        "HTTP/1.1 400 Bad Request\r\n",
+        "\r\n\r\nB2 WrongColumns 1\n",
+    ),
+];
+
+/// Runs such a day for four seconds.
+fn ran_amended(alloc: Global, door: &Rc<RefCell<Door>>) -> Option<Ran> {
+    let opened = Opened {
+        channels: ChannelSet::from_numbers(&[1, 2, 3]).ok()?,
+        day: Day::new("2026-01-05", "UTC0").ok()?,
+        last: 600,
+        clock: None,
+    };
+    let exchange = exchange_of(alloc, &AMENDED_ROWS)?;
+    ran_with(alloc, door, &opened, exchange, QUIET)
+}
+
+#[test]
+fn changes_are_made_and_told(rt: HostRuntime) -> Result<(), Fail> {
+    let alloc = rt.alloc();
+    for case in &AMENDED {
+        let (door, port) = opened(&rt, alloc)?;
+        let mut customer = client(&rt, alloc, port, case.1, case.2)?;
+        assert!(rt;
+            ran_amended(alloc, &door) == Some((5, case.3, case.3)),
+            "{}",
+            case.0
+        );
+        assert!(rt; is_told_so(&mut customer, case.4, case.5), "{}", case.0);
+    }
+    Ok(())
+}
+
+/// One booking, at a moment at which all channels are taken.
+const ONE_MORE: &str =
+    "Content-Type: text/csv\r\nContent-Length: 70\r\n\r\nstart,end,number,pay\n2026-01-05T00:01:40Z,2026-01-05T00:02:00Z,1234,5\n";
+
+#[test]
+fn what_is_given_up_is_sold_again(rt: HostRuntime) -> Result<(), Fail> {
+    let alloc = rt.alloc();
+    let (door, port) = opened(&rt, alloc)?;
+    let mut before = client(&rt, alloc, port, "POST /bookings", ONE_MORE)?;
+    let mut cancelling = client(&rt, alloc, port, "DELETE /bookings/2", "\r\n")?;
+    let mut again = client(&rt, alloc, port, "DELETE /bookings/2", "\r\n")?;
+    let mut after = client(&rt, alloc, port, "POST /bookings", ONE_MORE)?;
+    assert!(rt; ran_amended(alloc, &door) == Some((6, 2, 2)), "logged");
+    assert!(rt;
+        is_told_so(
+            &mut before,
+            "HTTP/1.1 200 OK\r\n",
+            "\n1,refused,,NoChannel\n"
+        ),
+        "before"
+    );
+    assert!(rt;
+        is_told_so(&mut cancelling, "HTTP/1.1 200 OK\r\n", "\n1,cancelled,2,\n"),
+        "cancelled"
+    );
+    assert!(rt;
+        is_told_so(
+            &mut again,
+            "HTTP/1.1 404 Not Found\r\n",
+            "\r\n\r\nNoBooking\n"
+        ),
+        "cancelled again"
+    );
+    assert!(rt;
+        is_told_so(&mut after, "HTTP/1.1 200 OK\r\n", "\n1,accepted,6,\n"),
+        "after"
+    );
+    Ok(())
+}

@@ -68,7 +68,7 @@ impl<'a> World for QuietWorld<'a> {
     fn drop_peer(&mut self, _loss: Loss) {}
 
     fn log(&mut self, event: LiveEvent<'_>) -> Result<(), CannotLog> {
-        if let LiveEvent::Sold(_) = event {
+        if let LiveEvent::Amended(_, _) = event {
             self.sold = self.sold.saturating_add(1);
         }
         Ok(())

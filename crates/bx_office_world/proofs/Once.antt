@@ -3,10 +3,10 @@ use Rattle.std.proofs.Common.{◌≡◌, ◌<◌, ◌+◌, ◌-◌, ℕ, List, [
 use Rattle.std.proofs.lemmas.List.{length-append, get_or_append_left, get_or-append_right}
 use Rattle.bx_day.specs.Day.{Day}
 use Rattle.bx_sales.specs.declared.tag.Tag.{Tag}
-use Rattle.bx_market.specs.Deals.{Deal, Ran, Asked, Answered}
+use Rattle.bx_market.specs.Deals.{Deal, Ran, Asked, Answered, ToldOfChange}
 use Rattle.bx_market.specs.declared.market.Request.{Request}
 use Rattle.bx_office_world.specs.KnownKeys.{key_at, KnowsKey}
-use Rattle.bx_office_world.specs.Keying.{LacksKey, IsKeyPut, IsKeyNew, AskOnce}
+use Rattle.bx_office_world.specs.Keying.{LacksKey, IsKeyPut, IsKeyNew, request_tag, AskOnce}
 
 -- a key more
 known_left : (keys more : List (List ℕ)) (key : List ℕ) → KnowsKey keys key → KnowsKey (keys ++ more) key
@@ -28,15 +28,16 @@ unknown : (keys : List (List ℕ)) (key : List ℕ) → LacksKey keys key → Kn
 unknown keys key lacks (i, inside, is) = lacks i inside is
 
 -- after a key is known no batch is under it
-pub none_under : (between : List Deal) (e : Day) (second : Request) (other : Tag) (after : List Deal) (old new : List (List ℕ)) → AskOnce (between ++ Asked e (Some second) ∷ after) old new → second.tag ≡ Some other → KnowsKey old other.key → ⊥
+pub none_under : (between : List Deal) (e : Day) (second : Request) (other : Tag) (after : List Deal) (old new : List (List ℕ)) → AskOnce (between ++ Asked e (Some second) ∷ after) old new → request_tag second ≡ Some other → KnowsKey old other.key → ⊥
 none_under [] e second other after old new (mid, fresh, put, rest) is known = unknown old other.key (subst (IsKeyNew old) is fresh) known
-none_under (Asked d (Some request) ∷ between) e second other after old new (mid, fresh, put, rest) is known = none_under between e second other after mid new rest is (known_put old mid request.tag other.key put known)
+none_under (Asked d (Some request) ∷ between) e second other after old new (mid, fresh, put, rest) is known = none_under between e second other after mid new rest is (known_put old mid (request_tag request) other.key put known)
 none_under (Asked d None ∷ between) e second other after old new rest is known = none_under between e second other after old new rest is known
 none_under (Ran act ∷ between) e second other after old new rest is known = none_under between e second other after old new rest is known
 none_under (Answered answers ∷ between) e second other after old new rest is known = none_under between e second other after old new rest is known
+none_under (ToldOfChange answer ∷ between) e second other after old new rest is known = none_under between e second other after old new rest is known
 
 pub not_two : (before between : List Deal) (d e : Day) (first second : Request) (tag other : Tag) (after : List Deal) (old new : List (List ℕ)) → AskOnce (before ++ Asked d (Some first) ∷ (between ++ Asked e (Some second) ∷ after)) old new
-    → first.tag ≡ Some tag → second.tag ≡ Some other → tag.key ≡ other.key → ⊥
+    → request_tag first ≡ Some tag → request_tag second ≡ Some other → tag.key ≡ other.key → ⊥
 not_two [] between d e first second tag other after old new (mid, fresh, put, rest) one two same =
     let grown : mid ≡ old ++ tag.key ∷ [] = subst (λ (t : Option Tag). IsKeyPut old t mid) one put in
     none_under between e second other after mid new rest two (subst (λ (ks : List (List ℕ)). KnowsKey ks other.key) (sym grown) (subst (KnowsKey (old ++ tag.key ∷ [])) same (known_last old tag.key)))
@@ -44,3 +45,4 @@ not_two (Asked c (Some request) ∷ before) between d e first second tag other a
 not_two (Asked c None ∷ before) between d e first second tag other after old new rest one two same = not_two before between d e first second tag other after old new rest one two same
 not_two (Ran act ∷ before) between d e first second tag other after old new rest one two same = not_two before between d e first second tag other after old new rest one two same
 not_two (Answered answers ∷ before) between d e first second tag other after old new rest one two same = not_two before between d e first second tag other after old new rest one two same
+not_two (ToldOfChange answer ∷ before) between d e first second tag other after old new rest one two same = not_two before between d e first second tag other after old new rest one two same

@@ -1,17 +1,14 @@
 -- Who waits is answered, one after another.
-use Rattle.std.proofs.Common.{◌≡◌, refl, sym, subst, ap, ap₂, ◌∙◌, inl, inr, ℕ, ◌+◌, ◌≤◌, List, [], ◌∷◌, ◌++◌, length, Option, Some, None, arith, length-append}
+use Rattle.std.proofs.Common.{◌≡◌, refl, sym, subst, ap, ◌∙◌, inl, inr, ℕ, ◌+◌, ◌≤◌, List, [], ◌∷◌, ◌++◌, length, Option, Some, None, arith, length-append}
 use Rattle.bx_market.specs.declared.market.Request.{Request}
 use Rattle.bx_office_world.specs.declared.ledger.Keyed.{Keyed}
-use Rattle.bx_office_world.specs.Ledgers.{tag_asked}
-use Rattle.bx_office_door.specs.Guests.{client_of}
 use Rattle.bx_day.specs.Day.{Day}
 use Rattle.bx_office.specs.declared.gate.Route.{Route}
-use Rattle.bx_office.specs.declared.gate.Route.TheVariants as routes
 use Rattle.bx_office_door.specs.Guests.{first_asked}
 use Rattle.bx_office_door.specs.declared.guest.Guest.{Guest}
-use Rattle.bx_office_world.specs.Serving.{IsServed, IsTurn, AreServed, IsNotSold, IsBatchTaken, IsServing, IsBatchOf, IsTakenBatch}
+use Rattle.bx_office_world.specs.Served.{IsTurn, IsTurnTaken, IsRequestTaken, AreServed, IsServing}
 use Rattle.bx_office_world.specs.declared.serving.Desk.{Desk}
-use Rattle.bx_office_world.specs.declared.serving.Selling.{Selling}
+use Rattle.bx_office_world.specs.declared.serving.Pending.{Pending}
 
 served_more : (desk : Desk) (requests : List Keyed) (d : Day) (told : List (ℕ × Route)) (turn : ℕ × Route) (old mid new : List Guest) → AreServed desk requests d told old mid → first_asked mid ≡ Some turn → IsTurn desk requests d turn.0 turn.1 mid new → AreServed desk requests d (told ++ turn ∷ []) old new
 served_more desk requests d [] turn old mid new e f t = (subst (λ (gs : List Guest). first_asked gs ≡ Some turn) e f, new, subst (λ (gs : List Guest). IsTurn desk requests d turn.0 turn.1 gs new) e t, refl)
@@ -33,11 +30,6 @@ one_more desk requests d count number route old mid new s f t = record {
   served = served_more desk requests d s.told (number, route) old mid new s.served f t;
 }
 
--- a request that asks for no bookings to be sold
-pub turn_of : (desk : Desk) (requests : List Keyed) (d : Day) (number : ℕ) (route : Route) (old new : List Guest) → (route ≡ routes.Bookings → ⊥) → IsServed desk d number route old new → IsTurn desk requests d number route old new
-turn_of desk requests d number routes.Bookings old new other s = absurd (other refl)
-turn_of desk requests d number route old new other s = s
-
 -- nobody waits any more, or enough were answered
 pub all_served : (desk : Desk) (requests : List Keyed) (d : Day) (count : ℕ) (old new : List Guest) → count ≤ 16 → SoFar desk requests d count old new → first_asked new ≡ None → IsServing desk requests d old new None
 all_served desk requests d count old new le s e = record { told = s.told; few = omega (arith, s.many); served = s.served; next = inl e }
@@ -45,25 +37,16 @@ all_served desk requests d count old new le s e = record { told = s.told; few = 
 pub enough_served : (desk : Desk) (requests : List Keyed) (d : Day) (old new : List Guest) → SoFar desk requests d 16 old new → IsServing desk requests d old new None
 enough_served desk requests d old new s = record { told = s.told; few = omega (arith, s.many); served = s.served; next = inr s.many }
 
--- the next batch is to be sold
-pub batch_next : (desk : Desk) (requests : List Keyed) (d : Day) (count : ℕ) (old mid new : List Guest) (number : ℕ) (selling : Selling) (request : Request) → count ≤ 16 → SoFar desk requests d count old mid → first_asked mid ≡ Some (number, routes.Bookings)
-    → new ≡ mid → IsTakenBatch desk d number mid selling request → IsServing desk requests d old new (Some (selling, request))
-batch_next desk requests d count old mid new number selling request le s f same n = record {
+-- what is wanted next
+pub next_wanted : (desk : Desk) (requests : List Keyed) (d : Day) (count : ℕ) (old mid new : List Guest) (number : ℕ) (route : Route) (next : Pending × Request) → count ≤ 16 → SoFar desk requests d count old mid → first_asked mid ≡ Some (number, route)
+    → (new ≡ mid) × IsRequestTaken desk d number route mid next.0 next.1 → IsServing desk requests d old new (Some next)
+next_wanted desk requests d count old mid new number route next le s f (same, taken) = record {
   told = s.told;
   few = omega (arith, s.many);
   served = subst (λ (gs : List Guest). AreServed desk requests d s.told old gs) (sym same) s.served;
-  next = (
-    ap first_asked same ∙ f ∙ ap (λ (x : ℕ). Some (x, routes.Bookings)) (sym n.customer),
-    n.rows_are,
-    n.keyed ∙ ap₂ (λ (x : ℕ) (gs : List Guest). tag_asked (client_of x gs)) (sym n.customer) (sym same),
-    subst (λ (gs : List Guest). IsBatchOf desk selling.customer.number gs selling.wanted request.batch) (sym same) (subst (λ (x : ℕ). IsBatchOf desk x mid selling.wanted request.batch) (sym n.customer) n.batch),
-  );
+  next = (number, route, ap first_asked same ∙ f, subst (λ (gs : List Guest). IsRequestTaken desk d number route gs next.0 next.1) (sym same) taken);
 }
 
--- nothing is taken
-pub not_taken : (desk : Desk) (requests : List Keyed) (d : Day) (number : ℕ) (old new : List Guest) (r : Option (Selling × Request)) → r ≡ None → IsBatchTaken desk requests d number old new r → IsNotSold desk requests d number old new
-not_taken desk requests d number old new r is taken = subst (λ (x : Option (Selling × Request)). IsBatchTaken desk requests d number old new x) is taken
-
--- a request whose bookings have a fault, or whose customer has hung up
-pub turn_of_bookings : (desk : Desk) (requests : List Keyed) (d : Day) (number : ℕ) (route : Route) (old new : List Guest) → route ≡ routes.Bookings → IsNotSold desk requests d number old new → IsTurn desk requests d number route old new
-turn_of_bookings desk requests d number route old new is b = subst (λ (r : Route). IsTurn desk requests d number r old new) (sym is) b
+-- nothing is wanted
+pub not_taken : (desk : Desk) (requests : List Keyed) (d : Day) (number : ℕ) (route : Route) (old new : List Guest) (r : Option (Pending × Request)) → r ≡ None → IsTurnTaken desk requests d number route old new r → IsTurn desk requests d number route old new
+not_taken desk requests d number route old new r is taken = subst (λ (x : Option (Pending × Request)). IsTurnTaken desk requests d number route old new x) is taken

@@ -3,7 +3,7 @@
 use Rattle.std.specs.Prelude.{◌≡◌, ℕ, List, [], ◌∷◌, ◌++◌, Option, Some, None}
 use Rattle.std.proofs.Common.{refl, sym, subst, ap, ◌∙◌}
 use Rattle.bx_live.specs.Acts.{Act}
-use Rattle.bx_market.specs.Deals.{Deal, Ran, Asked, Answered, acts_of, all_ran}
+use Rattle.bx_market.specs.Deals.{Deal, Ran, Asked, Answered, ToldOfChange, acts_of, all_ran}
 use Rattle.bx_office_world.specs.Keying.{AskOnce}
 
 acts_ran : (acts : List Act) → acts_of (all_ran acts) ≡ acts
@@ -15,6 +15,7 @@ acts_more [] ys = refl
 acts_more (Ran act ∷ xs) ys = ap (λ (zs : List Act). act ∷ zs) (acts_more xs ys)
 acts_more (Asked day request ∷ xs) ys = acts_more xs ys
 acts_more (Answered answers ∷ xs) ys = acts_more xs ys
+acts_more (ToldOfChange answer ∷ xs) ys = acts_more xs ys
 
 ran_once : (acts : List Act) (old new : List (List ℕ)) → new ≡ old → AskOnce (all_ran acts) old new
 ran_once [] old new same = same
@@ -26,6 +27,7 @@ ask_more (Asked day (Some request) ∷ xs) ys a b c (mid, new, put, rest) more =
 ask_more (Asked day None ∷ xs) ys a b c rest more = ask_more xs ys a b c rest more
 ask_more (Ran act ∷ xs) ys a b c rest more = ask_more xs ys a b c rest more
 ask_more (Answered answers ∷ xs) ys a b c rest more = ask_more xs ys a b c rest more
+ask_more (ToldOfChange answer ∷ xs) ys a b c rest more = ask_more xs ys a b c rest more
 
 module _ {W : Type 0} (did : W → List Act → W → Type 0) where
   abbrev pub IsDealt : W → W → List (List ℕ) → List (List ℕ) → List Deal → Type 0

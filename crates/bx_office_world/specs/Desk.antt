@@ -1,6 +1,7 @@
 -- What stands at each path now.
 use Rattle.std.specs.Prelude.{◌≡◌, ◌⊎◌, ℕ, List, []}
-use Rattle.bx_office_world.specs.Answers.{IsPlanText, IsNoPromisedPlan, IsNoRecords}
+use Rattle.bx_office_world.specs.Answers.{IsNoRecords}
+use Rattle.bx_office_world.specs.LastPlans.{IsPlanText, HasNoLastPlan}
 use Rattle.bx_office_world.specs.Health.{health_text, ready_now, ready_words}
 use Rattle.bx_office_world.specs.Metrics.{metrics_text}
 use Rattle.bx_office_world.specs.Quotes.{IsCallOfQuery, IsNoCallOfQuery, IsQuoteText, IsNoQuoteText}
@@ -45,7 +46,7 @@ IsQuoteUnanswered opened query entries why = IsNoCallOfQuery query (span_of open
 
 -- why nothing stands at a path: just what its command is refused for, or memory runs out
 abbrev pub IsUnanswered : Opened → Day → List ℕ → Route → NoAnswer → Type 0
-IsUnanswered opened d query routes.Plan why = IsNoPromisedPlan d.entries opened.channels why
+IsUnanswered opened d query routes.Plan why = HasNoLastPlan d.entries opened.channels why
 IsUnanswered opened d query routes.Outcomes why = why ≡ Memory
 IsUnanswered opened d query routes.Records why = IsNoRecords opened.clock why
 IsUnanswered opened d query routes.Quote why = IsQuoteUnanswered opened query d.entries why

@@ -11,10 +11,12 @@ use Rattle.bx_sales.specs.declared.tag.Tag.{Tag}
 use Rattle.hex.specs.Hex.{encode_lower}
 use Rattle.sha2.specs.Sha256.{sha256}
 use Rattle.bx_office.specs.declared.client.Client.{Client}
+use Rattle.bx_market.specs.declared.market.Batch.{Batch}
 use Rattle.bx_market.specs.declared.market.Request.{Request}
+use Rattle.bx_office_world.specs.declared.serving.Pending.{Pending}
 use Rattle.bx_office_world.specs.declared.serving.Selling.{Selling}
 use Rattle.bx_office_world.specs.KnownKeys.{keys_in, key_at, KnowsKey}
-use Rattle.bx_office_world.specs.Keying.{LacksKey, IsKeyPut, IsKeyNew}
+use Rattle.bx_office_world.specs.Keying.{LacksKey, IsKeyPut, IsKeyNew, request_tag}
 use Rattle.bx_office_world.specs.declared.ledger.Keyed.{Keyed}
 use Rattle.bx_office_world.specs.declared.ledger.Told.{Told}
 use Rattle.bx_office_world.specs.declared.ledger.Told.TheVariants as told
@@ -32,9 +34,13 @@ abbrev pub KeepsKeys : List (List ℕ) → List (List ℕ) → Type 0
 KeepsKeys old new = (key : List ℕ) → KnowsKey old key → KnowsKey new key
 
 -- what is asked for next is under a key under which nothing was asked for before, and which is put down; or under none
-abbrev pub IsKeyTaken : List (List ℕ) → Option (Selling × Request) → List (List ℕ) → Type 0
+abbrev pub IsBatchKeyTaken : List (List ℕ) → Option (Selling × Batch) → List (List ℕ) → Type 0
+IsBatchKeyTaken old None new = new ≡ old
+IsBatchKeyTaken old (Some next) new = IsKeyNew old next.1.tag × IsKeyPut old next.1.tag new
+
+abbrev pub IsKeyTaken : List (List ℕ) → Option (Pending × Request) → List (List ℕ) → Type 0
 IsKeyTaken old None new = new ≡ old
-IsKeyTaken old (Some next) new = IsKeyNew old next.1.tag × IsKeyPut old next.1.tag new
+IsKeyTaken old (Some next) new = IsKeyNew old (request_tag next.1) × IsKeyPut old (request_tag next.1) new
 
 -- the key of a client's request, and what it asks for
 abbrev pub tag_by : Option (List ℕ) → List ℕ → Option Tag

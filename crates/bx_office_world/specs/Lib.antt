@@ -1,9 +1,13 @@
 pub mod Desk
 pub mod Serving
+pub mod ChangedTexts
+pub mod Changes
+pub mod Served
 pub mod Counting
 pub mod Dealt
 pub mod Uncounted
 pub mod Answers
+pub mod LastPlans
 pub mod KnownKeys
 pub mod Keying
 pub mod Ledgers

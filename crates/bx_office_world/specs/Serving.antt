@@ -15,7 +15,7 @@ use Rattle.bx_day.specs.Day.{Day}
 use Rattle.bx_day_chart.specs.Sights.{sight_of}
 use Rattle.std.specs.Str.{bytes_eq}
 use Rattle.bx_sales.specs.declared.tag.Tag.{Tag}
-use Rattle.bx_market.specs.declared.market.Request.{Request}
+use Rattle.bx_market.specs.declared.market.Batch.{Batch}
 use Rattle.bx_market.specs.declared.market.Answer.{Answer}
 use Rattle.bx_office.specs.declared.client.Client.{Client}
 use Rattle.bx_office.specs.declared.gate.Route.{Route}
@@ -36,7 +36,7 @@ use Rattle.bx_office_world.specs.KnownKeys.{keys_in, key_at}
 use Rattle.bx_office_world.specs.Ledgers.{request_at, tag_asked, answers_again}
 use Rattle.bx_office_world.specs.declared.ledger.Keyed.{Keyed}
 use Rattle.bx_office_world.specs.declared.desk.Opened.{Opened}
-use Rattle.bx_office_world.specs.declared.serving.Batch.{Batch}
+use Rattle.bx_office_world.specs.declared.serving.Order.{Order}
 use Rattle.bx_office_world.specs.declared.serving.Desk.{Desk}
 use Rattle.bx_office_world.specs.declared.serving.Selling.{Selling}
 use Rattle.bx_planner.specs.declared.answer.NoQuote.TheVariants as quotes
@@ -115,7 +115,7 @@ pub record IsFaulted (desk : Desk) (number : ℕ) (old new : List Guest) : Type 
   pub is : IsPlain (book_status fault) reply
   pub answered : IsAnswered number reply old new
 
-abbrev pub IsBatchRead : Desk → ℕ → List Guest → List Guest → Option Batch → Type 0
+abbrev pub IsBatchRead : Desk → ℕ → List Guest → List Guest → Option Order → Type 0
 IsBatchRead desk number old new None = ((client_of number old ≡ None) × (new ≡ old)) ⊎ IsFaulted desk number old new
 IsBatchRead desk number old new (Some batch) = (new ≡ old) × IsBatchOf desk number old batch.wanted batch.offered
 
@@ -130,19 +130,19 @@ pub record IsToldSold (last rows : ℕ) (wanted : List Row) (answers : List Answ
   pub answered : IsAnsweredThere number reply old new
 
 -- Under a key: where the same was asked for, the same is told again, or memory ran out; else that something else was
-abbrev pub IsSameTold : Bool → ℕ → Day → Batch → Keyed → ℕ → List Guest → List Guest → Type 0
+abbrev pub IsSameTold : Bool → ℕ → Day → Order → Keyed → ℕ → List Guest → List Guest → Type 0
 IsSameTold true last d batch request number old new =
     IsToldSold last request.rows batch.wanted (answers_again request batch.offered d.entries) number old new ⊎ IsRefusing statuses.Unavailable number old new
 IsSameTold false last d batch request number old new = IsRefusing statuses.Unprocessable number old new
 
-abbrev pub IsToldAgain : ℕ → Day → Tag → Batch → Keyed → ℕ → List Guest → List Guest → Type 0
+abbrev pub IsToldAgain : ℕ → Day → Tag → Order → Keyed → ℕ → List Guest → List Guest → Type 0
 IsToldAgain last d tag batch request number old new = IsSameTold (bytes_eq request.tag.body tag.body) last d batch request number old new
 
 -- something was asked for under the key of this client's request before, and that is told again
 pub record IsRepeated (desk : Desk) (requests : List Keyed) (d : Day) (number : ℕ) (old new : List Guest) : Type 0 where
   pub tag : Tag
   pub asked : tag_asked (client_of number old) ≡ Some tag
-  pub batch : Batch
+  pub batch : Order
   pub of : IsBatchOf desk number old batch.wanted batch.offered
   pub place : ℕ
   pub known : key_at (keys_in requests) place ≡ tag.key
@@ -154,40 +154,15 @@ IsNotSold desk requests d number old new =
     IsBatchRead desk number old new None ⊎ (IsSentAway number old new ⊎ (IsRepeated desk requests d number old new ⊎ IsRefusing statuses.Unavailable number old new))
 
 -- what is to be sold is of the customer of this number, whose socket was just looked at, under the key of its request
-pub record IsTakenBatch (desk : Desk) (d : Day) (number : ℕ) (guests : List Guest) (selling : Selling) (request : Request) : Type 0 where
+pub record IsTakenBatch (desk : Desk) (d : Day) (number : ℕ) (guests : List Guest) (selling : Selling) (request : Batch) : Type 0 where
   pub customer : selling.customer.number ≡ number
   pub rows_are : selling.rows ≡ length d.entries
   pub keyed : request.tag ≡ tag_asked (client_of number guests)
-  pub batch : IsBatchOf desk number guests selling.wanted request.batch
+  pub batch : IsBatchOf desk number guests selling.wanted request.bookings
 
-abbrev pub IsBatchTaken : Desk → List Keyed → Day → ℕ → List Guest → List Guest → Option (Selling × Request) → Type 0
+abbrev pub IsBatchTaken : Desk → List Keyed → Day → ℕ → List Guest → List Guest → Option (Selling × Batch) → Type 0
 IsBatchTaken desk requests d number old new None = IsNotSold desk requests d number old new
 IsBatchTaken desk requests d number old new (Some next) = (new ≡ old) × IsTakenBatch desk d number old next.0 next.1
-
--- ---- who waits is answered, each in its turn
-
-abbrev pub IsTurn : Desk → List Keyed → Day → ℕ → Route → List Guest → List Guest → Type 0
-IsTurn desk requests d number routes.Bookings old new = IsNotSold desk requests d number old new
-IsTurn desk requests d number route old new = IsServed desk d number route old new
-
--- these were answered, each as the first whose request waited then, and nobody else
-abbrev pub AreServed : Desk → List Keyed → Day → List (ℕ × Route) → List Guest → List Guest → Type 0
-AreServed desk requests d [] old new = new ≡ old
-AreServed desk requests d (turn ∷ more) old new =
-    (first_asked old ≡ Some turn) × (next : List Guest) × IsTurn desk requests d turn.0 turn.1 old next × AreServed desk requests d more next new
-
--- what is offered next is of the batch of the first who waits then, under the key of that request, and is kept with how many rows the plan has
-abbrev pub IsNextBatch : Desk → Day → List (ℕ × Route) → List Guest → Option (Selling × Request) → Type 0
-IsNextBatch desk d told new None = (first_asked new ≡ None) ⊎ (length told ≡ 16)
-IsNextBatch desk d told new (Some next) =
-    (first_asked new ≡ Some (next.0.customer.number, routes.Bookings)) × (next.0.rows ≡ length d.entries)
-    × (next.1.tag ≡ tag_asked (client_of next.0.customer.number new)) × IsBatchOf desk next.0.customer.number new next.0.wanted next.1.batch
-
-pub record IsServing (desk : Desk) (requests : List Keyed) (d : Day) (old new : List Guest) (result : Option (Selling × Request)) : Type 0 where
-  pub told : List (ℕ × Route)
-  pub few : length told ≤ 16
-  pub served : AreServed desk requests d told old new
-  pub next : IsNextBatch desk d told new result
 
 -- ---- before the day begins
 

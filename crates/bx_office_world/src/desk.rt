@@ -8,8 +8,8 @@ ghost use Rattle.bx_office_world.specs.Desk.{IsQuoteAnswered, IsWritten, IsQuote
 use crate::drawing::chart_text;
 use crate::fault::NoAnswer;
 use crate::health::{health_text, ready_now, ready_text};
+use crate::last_plans::plan_text;
 use crate::metrics::{Figures, metrics_text};
-use crate::promised::plan_text;
 use crate::quoting::{call_of, quote_text};
 use crate::texts::{outcomes_text, records_text};
 use bx_base::ChannelSet;
@@ -107,9 +107,13 @@ pub fn answer_of(
             Kind::Text,
             ready_text(alloc, ready_now(opened, exchange, figures)),
         ),
-        // The door answers with the page and its parts, and bookings are sold.
-        Route::Home | Route::Script | Route::Style | Route::Bookings | Route::Office => {
-            of_kind(Kind::Text, Ok(Vec::new(alloc)))
-        }
+        // The door answers with the page and its parts, and bookings are sold, given up and changed.
+        Route::Home
+        | Route::Script
+        | Route::Style
+        | Route::Office
+        | Route::Bookings
+        | Route::Cancel(_)
+        | Route::Change(_) => of_kind(Kind::Text, Ok(Vec::new(alloc))),
     }
 }

@@ -1,11 +1,13 @@
 //! A live day with a booking office beside it, and what the office answers: texts of the day, a pure function each of the exchange.
 #![tactic(auto)]
 
+mod changes;
 mod counting;
 mod desk;
 mod drawing;
 mod fault;
 mod health;
+mod last_plans;
 pub mod laws;
 mod ledger;
 mod maintenance;
@@ -18,13 +20,15 @@ mod tallies;
 mod texts;
 mod world;
 
+pub use changes::changed_text;
 pub use desk::{Opened, Written, answer_of};
 pub use drawing::chart_text;
 pub use fault::NoAnswer;
 pub use health::{Readiness, health_text, ready_now, ready_text};
+pub use last_plans::{last_plan, plan_text};
 pub use ledger::Ledger;
 pub use metrics::{Figures, metrics_text};
-pub use promised::{plan_text, promised_plan};
+pub use promised::promised_plan;
 pub use quoting::{call_of, quote_text};
 pub use sold::sold_text;
 pub use texts::{outcomes_text, records_text};

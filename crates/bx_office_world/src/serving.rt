@@ -5,10 +5,12 @@ ghost use Rattle.bx_office_world.specs.Counting.{begin_counted, is_without_link,
 ghost use Rattle.bx_office_door.specs.Doors.{guests_of};
 ghost use Rattle.bx_office_world.specs.KnownKeys.{known_keys};
 ghost use Rattle.bx_office_world.specs.Keying.{IsKeyPut};
-ghost use Rattle.bx_office_world.specs.Ledgers.{tag_asked, IsKeyTaken};
-ghost use Rattle.bx_office_world.specs.Serving.{reply_status_of, book_status, IsRefusing, IsServed, IsBatchIn, IsBadBatch, IsBatchRead, IsToldAgain, IsBatchTaken, IsServing, IsToldSold, IsPrepared};
+ghost use Rattle.bx_office_world.specs.Ledgers.{tag_asked, IsBatchKeyTaken, IsKeyTaken};
+ghost use Rattle.bx_office_world.specs.Serving.{reply_status_of, book_status, IsRefusing, IsServed, IsBatchIn, IsBadBatch, IsBatchRead, IsToldAgain, IsBatchTaken, IsToldSold, IsPrepared};
+ghost use Rattle.bx_office_world.specs.Served.{IsTurnTaken, IsServing};
 ghost use Rattle.bx_office_door.specs.Guests.{client_of};
 
+use crate::changes::{Changing, next_cancel, next_change};
 use crate::counting::{count_begin, is_without_link};
 use crate::desk::{Opened, Written, answer_of};
 use crate::fault::NoAnswer;
@@ -21,7 +23,7 @@ use bx_book::{BookFault, read_bookings};
 use bx_day::Exchange;
 use bx_day_chart::DaySight;
 use bx_live::Begin;
-use bx_market::{Answer, Request};
+use bx_market::{Answer, Batch, Request};
 use bx_office::{Allowed, Kind, Reply, Route, Status};
 use bx_office_door::{Customer, Door};
 use bx_planner::NoQuote;
@@ -42,9 +44,16 @@ pub(crate) struct Selling {
     wanted: Bookings,
 }
 
+/// Who waits to be told what becomes of what is asked for: of a batch, or of a change.
+#[derive(Drop)]
+pub(crate) enum Pending {
+    Sale(Selling),
+    Change(Changing),
+}
+
 /// The bookings of a request, and those of them that are offered: they start by the last second to which the day is run.
 #[derive(Drop)]
-struct Batch {
+struct Order {
     wanted: Bookings,
     offered: Bookings,
 }
@@ -58,7 +67,7 @@ pub(crate) struct Desk<'a> {
 }
 
 /// A reply of this kind.
-fn reply_of(status: Status, kind: Kind, body: &[u8]) -> Reply<'_>
+pub(crate) fn reply_of(status: Status, kind: Kind, body: &[u8]) -> Reply<'_>
     ensures { (result.status ≡ status) × (result.kind ≡ kind) × (result.allowed ≡ Allowed.Unsaid) × (result.body.now ≡ body.now) }
 {
     Reply {
@@ -81,7 +90,7 @@ fn status_of(why: NoAnswer) -> Status
 }
 
 /// How the answer to bookings begins that have a fault.
-fn book_status(fault: BookFault) -> Status
+pub(crate) fn book_status(fault: BookFault) -> Status
     ensures { result ≡ book_status fault }
 {
     match fault {
@@ -91,19 +100,25 @@ fn book_status(fault: BookFault) -> Status
 }
 
 /// The batch of a text, at an office that was opened with this. Where it has a fault, or memory runs out, there is none.
-fn batch_in(alloc: Global, opened: &Opened, text: &[u8]) -> Result<Batch, BookFault>
+fn batch_in(alloc: Global, opened: &Opened, text: &[u8]) -> Result<Order, BookFault>
     ensures batch { IfOk result (λ batch. IsBatchIn opened.now text.now batch.wanted batch.offered) }
     ensures fault { IfErr result (IsBadBatch opened.now text.now) }
 {
     let wanted = read_bookings(alloc, text, &opened.day)?;
     match within_day(alloc, opened.last, &wanted) {
-        Ok(offered) => Ok(Batch { wanted, offered }),
+        Ok(offered) => Ok(Order { wanted, offered }),
         Err(_) => Err(BookFault::Memory),
     }
 }
 
 /// Answers the client of this number by why there is no answer, in one line.
-fn refuse<F: Display + Drop>(alloc: Global, door: &mut Door, number: u64, status: Status, why: F)
+pub(crate) fn refuse<F: Display + Drop>(
+    alloc: Global,
+    door: &mut Door,
+    number: u64,
+    status: Status,
+    why: F,
+)
     ensures { IsRefusing status number (guests_of door.old) (guests_of door.new) }
 {
     match format!(in alloc; "{why}\n") {
@@ -169,7 +184,7 @@ impl Desk<'_> {
     }
 
     /// The batch of a request. Where it has a fault, that is answered, and nothing is sold.
-    fn batch(&self, alloc: Global, door: &mut Door, number: u64) -> Option<Batch>
+    fn batch(&self, alloc: Global, door: &mut Door, number: u64) -> Option<Order>
         ensures { IsBatchRead self.now number (guests_of door.old) (guests_of door.new) result }
     {
         let client = door.client(number)?;
@@ -190,7 +205,7 @@ impl Desk<'_> {
         exchange: &Exchange,
         number: u64,
         tag: Tag,
-        batch: &Batch,
+        batch: &Order,
         request: &Keyed,
     )
         ensures { IsToldAgain self.now.opened.now.last exchange.now tag batch.now request.now number (guests_of door.old) (guests_of door.new) }
@@ -229,9 +244,9 @@ impl Desk<'_> {
         ledger: &mut Ledger,
         exchange: &Exchange,
         number: u64,
-    ) -> Option<(Selling, Request)>
+    ) -> Option<(Selling, Batch)>
         ensures taken { IsBatchTaken self.now ledger.old.requests.items exchange.now number (guests_of door.old) (guests_of door.new) result }
-        ensures keys { IsKeyTaken (known_keys ledger.old) result (known_keys ledger.new) }
+        ensures keys { IsBatchKeyTaken (known_keys ledger.old) result (known_keys ledger.new) }
         ensures still { result ≡ None → ledger.new.requests.items ≡ ledger.old.requests.items }
     {
         let tag = tag_of_client(door, number);
@@ -247,7 +262,7 @@ impl Desk<'_> {
         // Read for the prover alone, which learns a limit from it.
         let _moment = exchange.moment();
         let rows = exchange.entries().len() as u16;
-        let Batch { wanted, offered } = batch;
+        let Order { wanted, offered } = batch;
         if !is_entered(ledger, tag, rows, offered.len()) {
             refuse(alloc, door, number, Status::Unavailable, "Memory");
             return None;
@@ -258,8 +273,42 @@ impl Desk<'_> {
             rows,
             wanted,
         };
-        let batch = offered;
-        Some((selling, Request { tag, batch }))
+        let bookings = offered;
+        Some((selling, Batch { tag, bookings }))
+    }
+
+    /// Answers the client of this number, whose request goes there, or takes what it asks for.
+    fn next(
+        &self,
+        alloc: Global,
+        door: &mut Door,
+        ledger: &mut Ledger,
+        exchange: &Exchange,
+        number: u64,
+        route: Route,
+    ) -> Option<(Pending, Request)>
+        ensures turn { IsTurnTaken self.now ledger.old.requests.items exchange.now number route (guests_of door.old) (guests_of door.new) result }
+        ensures keys { IsKeyTaken (known_keys ledger.old) result (known_keys ledger.new) }
+        ensures still { result ≡ None → ledger.new.requests.items ≡ ledger.old.requests.items }
+    {
+        match route {
+            Route::Bookings => {
+                let (selling, batch) = self.next_batch(alloc, door, ledger, exchange, number)?;
+                Some((Pending::Sale(selling), Request::Sell(batch)))
+            }
+            Route::Cancel(row) => {
+                let changing = next_cancel(door, number, row)?;
+                Some((Pending::Change(changing), Request::Cancel(row)))
+            }
+            Route::Change(row) => {
+                let (changing, booking) = next_change(alloc, self, door, number, row)?;
+                Some((Pending::Change(changing), Request::Change(row, booking)))
+            }
+            _ => {
+                self.tell(alloc, door, exchange, number, route);
+                None
+            }
+        }
     }
 
     /// Keeps the figures of the day as it stands for who asks before it begins.
@@ -275,27 +324,22 @@ impl Desk<'_> {
         }
     }
 
-    /// Answers who waits, each in its turn, up to the first that asks for bookings to be sold, or up to so many: whose they are, and
-    /// those that are offered. Who has hung up by then is sent away, and nothing is sold for it.
+    /// Answers who waits, each in its turn, up to the first that asks for a sale or a change, or up to so many: whose it is, and what is wanted.
+    /// Who has hung up by then is sent away, and nothing is sold or changed for it.
     pub(crate) fn serve(
         &self,
         alloc: Global,
         door: &mut Door,
         ledger: &mut Ledger,
         exchange: &Exchange,
-    ) -> Option<(Selling, Request)>
+    ) -> Option<(Pending, Request)>
         ensures served { IsServing self.now ledger.old.requests.items exchange.now (guests_of door.old) (guests_of door.new) result }
         ensures keys { IsKeyTaken (known_keys ledger.old) result (known_keys ledger.new) }
     {
         for _answer in 0..MAX_ANSWERS {
             let (number, route) = door.asked()?;
-            match route {
-                Route::Bookings => {
-                    if let Some(next) = self.next_batch(alloc, door, ledger, exchange, number) {
-                        return Some(next);
-                    }
-                }
-                _ => self.tell(alloc, door, exchange, number, route),
+            if let Some(next) = self.next(alloc, door, ledger, exchange, number, route) {
+                return Some(next);
             }
         }
         None

@@ -12,7 +12,7 @@ use bx_text::append_decimal;
 use std::alloc::{AllocError, Global};
 
 /// Whether a booking starts by this second.
-fn is_within(last: u32, booking: Booking) -> bool
+pub(crate) fn is_within(last: u32, booking: Booking) -> bool
     ensures { result ≡ is_within last booking }
 {
     booking.start() <= last

@@ -6,11 +6,12 @@ ghost use Rattle.bx_office_world.specs.KnownKeys.{known_keys};
 ghost use Rattle.bx_office_world.specs.Ledgers.{IsKeyTaken};
 ghost use Rattle.bx_office_world.specs.Uncounted.{AreUncounted};
 
+use crate::changes::{Changing, tell_changed};
 use crate::counting::{count_message, count_sold, seconds_since};
 use crate::desk::Opened;
 use crate::ledger::Ledger;
 use crate::metrics::Figures;
-use crate::serving::{Desk, Selling, tell_sold};
+use crate::serving::{Desk, Pending, Selling, tell_sold};
 use bx_day::Exchange;
 use bx_day_chart::{DaySight, Outages};
 use bx_devices::WriteFailed;
@@ -20,6 +21,7 @@ use bx_live::{Begin, CannotLog, Loss, World};
 use bx_market::{Answer, Market, Request};
 use bx_office_door::Door;
 use bx_q931::Octets;
+use bx_sales::NoChange;
 use std::alloc::Global;
 use std::cell::RefCell;
 use std::rc::Rc;
@@ -31,7 +33,7 @@ pub struct Office<'a> {
     door: Rc<RefCell<Door>>,
     desk: Desk<'a>,
     ledger: Ledger,
-    selling: Option<Selling>,
+    pending: Option<Pending>,
     /// What the clock showed when the journal was brought to the disk last, in nanoseconds.
     synced: Option<u128>,
 }
@@ -44,7 +46,7 @@ impl<'a> Office<'a> {
         ensures figures { AreUncounted result.desk.figures }
         ensures sight { (result.desk.sight.outages.spans.items ≡ []) × (result.desk.sight.is_over ≡ false) }
         ensures ledger { result.ledger ≡ ledger }
-        ensures idle { (result.selling ≡ None) × (result.synced ≡ None) }
+        ensures idle { (result.pending ≡ None) × (result.synced ≡ None) }
     {
         let desk = Desk {
             opened,
@@ -59,7 +61,7 @@ impl<'a> Office<'a> {
             door,
             desk,
             ledger,
-            selling: None,
+            pending: None,
             synced: None,
         }
     }
@@ -70,9 +72,9 @@ impl<'a> Office<'a> {
         Some((door.answers(), door.shown()))
     }
 
-    /// Keeps the figures for who asks before the day begins, and answers who waits, up to the first that asks for bookings to be sold: whose they
-    /// are, and those that are offered.
-    fn serve(&mut self, exchange: &Exchange) -> Option<(Selling, Request)>
+    /// Keeps the figures for who asks before the day begins, and answers who waits, up to the first that asks for a sale or a change: whose it is,
+    /// and what is wanted.
+    fn serve(&mut self, exchange: &Exchange) -> Option<(Pending, Request)>
         ensures keys { IsKeyTaken (known_keys self.old.ledger) result (known_keys self.new.ledger) }
     {
         let mut guard = self.door.try_borrow_mut().ok()?;
@@ -86,6 +88,13 @@ impl<'a> Office<'a> {
         if let Ok(mut guard) = self.door.try_borrow_mut() {
             let last = self.desk.opened.last;
             tell_sold(self.alloc, &mut guard, last, selling, answers);
+        }
+    }
+
+    /// Tells the customer of a change what has become of it.
+    fn tell_changed(&self, changing: &Changing, answer: Result<(), NoChange>) {
+        if let Ok(mut guard) = self.door.try_borrow_mut() {
+            tell_changed(self.alloc, &mut guard, changing, answer);
         }
     }
 }
@@ -165,13 +174,13 @@ impl<'a, W: World> Market for OfficeWorld<'a, W> {
         let (answers, shown) = self.office.seen()?;
         self.office.desk.figures.answers = answers;
         self.office.desk.figures.since_sync = seconds_since(self.office.synced, shown);
-        let (selling, request) = self.office.serve(exchange)?;
-        self.office.selling = Some(selling);
+        let (pending, request) = self.office.serve(exchange)?;
+        self.office.pending = Some(pending);
         Some(request)
     }
 
     fn answer(&mut self, answers: &[Answer]) {
-        let Some(selling) = self.office.selling.take() else {
+        let Some(Pending::Sale(selling)) = self.office.pending.take() else {
             return;
         };
         count_sold(&mut self.office.desk.figures, answers);
@@ -180,6 +189,12 @@ impl<'a, W: World> Market for OfficeWorld<'a, W> {
             self.office.ledger.tell(alloc, answers);
         }
         self.office.tell_sold(&selling, answers);
+    }
+
+    fn answer_change(&mut self, answer: Result<(), NoChange>) {
+        if let Some(Pending::Change(changing)) = self.office.pending.take() {
+            self.office.tell_changed(&changing, answer);
+        }
     }
 
     ghost dealt_by = { λ s t acts p. dealt_so W.did s.world t.world acts p.0 p.1 };
