@@ -14,3 +14,5 @@ mod RowChanges
 pub mod Rows
 pub mod OneMore
 mod FreeChannels
+mod FirstFitFound
+pub mod InTurn

@@ -1,8 +1,7 @@
 -- What is known of a row that may be given up or changed.
 use Rattle.std.proofs.Common.{◌≡◌, ℕ, ◌-◌, ◌<◌, List, length, Result, Ok, Err, OnOk, sym, subst, ap, ◌∙◌, arith}
-use Rattle.std.proofs.lemmas.List.{get_or_default}
 use Rattle.bx_base.specs.Bookings.{Row, row_at}
-use Rattle.bx_day.specs.Day.{Day, entry_at, no_entry}
+use Rattle.bx_day.specs.Day.{Day, entry_at}
 use Rattle.bx_day.specs.declared.entry.Entry.{Entry}
 use Rattle.bx_sales.specs.Changing.{IsPromised, MayBecome, MayBeChanged}
 use Rattle.bx_sales.specs.Selling.{rows_of}
@@ -11,6 +10,10 @@ use Rattle.bx_sales.proofs.StayingFirst.{row_there}
 pub ok_then : {A E P Q : Type 0} (r : Result A E) → (P → Q) → OnOk r P → OnOk r Q
 ok_then (Ok a) f p = f p
 ok_then (Err e) f p = tt
+
+pub ok_both : {A E P Q R : Type 0} (r : Result A E) → OnOk r P → OnOk r Q → (P → Q → R) → OnOk r R
+ok_both (Ok a) p q f = f p q
+ok_both (Err e) p q f = tt
 
 module _ (d : Day) (row : ℕ) (promised : IsPromised d.entries row) where
   -- what stands at the row

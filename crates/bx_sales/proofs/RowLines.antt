@@ -1,5 +1,5 @@
 -- The row and the text of a line are read in it again.
-use Rattle.std.proofs.Common.{◌≡◌, ℕ, suc, ◌+◌, ◌<◌, ◌≤◌, List, [], ◌∷◌, ◌++◌, take, drop, length, decimal, refl, sym, ap, ◌∙◌, arith}
+use Rattle.std.proofs.Common.{◌≡◌, ℕ, suc, ◌+◌, ◌<◌, ◌≤◌, List, [], ◌∷◌, ◌++◌, take, drop, length, decimal, refl, ap, ◌∙◌, arith}
 use Rattle.bx_journal.specs.Numbers.{space_at}
 use Rattle.bx_journal.proofs.NumbersRead.{number_read, decimal_digits, decimal_short, space_after}
 use Rattle.bx_sales.specs.Amending.{number_or_none, row_numbered, row_named, behind_row}

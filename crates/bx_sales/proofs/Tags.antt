@@ -1,11 +1,11 @@
 -- What the line of a sale tells is read again.
-use Rattle.std.proofs.Common.{◌≡◌, ℕ, ◌+◌, ◌≤◌, nat_le, ◌&&◌, Bool, true, false, List, [], ◌∷◌, ◌++◌, length, take, drop, codes, Option, Some, None, refl, sym, ap, ap₂, ◌∙◌, subst, if◌then◌else◌, arith, length-append}
+use Rattle.std.proofs.Common.{◌≡◌, ℕ, ◌+◌, nat_le, true, false, List, ◌++◌, length, take, drop, codes, Some, None, refl, ap, ap₂, ◌∙◌, subst, if◌then◌else◌, arith, length-append}
 use Rattle.std.specs.Str.{bytes_eq}
 use Rattle.std.proofs.lemmas.Bool.{le-leb, and_from}
-use Rattle.std.proofs.lemmas.List.{append_assoc, take_all}
+use Rattle.std.proofs.lemmas.List.{append_assoc}
 use Rattle.std.proofs.Math.Seq.{take-append_seam, drop-append_seam, drop-append-add}
 use Rattle.bx_sales.specs.declared.tag.Tag.{Tag}
-use Rattle.bx_sales.specs.Tags.{tag_text, sale_text, is_tagged, behind_tag, tag_of, IsReadBack}
+use Rattle.bx_sales.specs.Tags.{tag_text, sale_text, is_tagged, IsReadBack}
 
 -- without a key
 pub plain_back : (booking : List ℕ) → is_tagged booking ≡ false → IsReadBack None booking (sale_text None booking)

@@ -1,19 +1,16 @@
 -- A day has the bookings and the marks of its plan; and first fit is one colouring of its marks.
-use Rattle.std.proofs.Common.{◌≡◌, ℕ, suc, ◌+◌, ◌<◌, not, Bool, true, false, List, [], ◌∷◌, ◌++◌, map, length, Option, None, arith, refl, sym, subst, ap, ap₂, ◌∙◌, slice_index_or}
-use Rattle.std.proofs.lemmas.List.{length-append}
+use Rattle.std.proofs.Common.{◌≡◌, ℕ, suc, ◌+◌, ◌<◌, not, Bool, true, false, List, [], ◌∷◌, ◌++◌, map, length, Option, None, arith, refl, sym, ap, ap₂, ◌∙◌, slice_index_or}
 use Rattle.bx_base.specs.Bookings.{Row, row_at, AreBookings, Carries}
 use Rattle.bx_base.specs.Plans.{is_accepted, channel_at}
 use Rattle.bx_colour.specs.Colouring.{IsFirstFit, is_in}
 use Rattle.bx_colour.proofs.FirstFitStays.{channels_stay, marked}
-use Rattle.bx_day.specs.Day.{Day, entry_at, opening}
-use Rattle.bx_day.specs.Extended.{extended, IsExtendedBy}
+use Rattle.bx_day.specs.Day.{entry_at, opening}
 use Rattle.bx_day.specs.Invariant.{is_refused}
-use Rattle.bx_day.specs.Outages.{live_happens, live_day_after}
+use Rattle.bx_day.specs.Outages.{live_day_after}
 use Rattle.bx_day.specs.declared.entry.Entry.{Entry}
-use Rattle.bx_sales.proofs.ExtendedBy.{size, frame_at, goes_on}
-use Rattle.bx_sales.proofs.Sales.{one_more, joined}
+use Rattle.bx_sales.proofs.ExtendedBy.{size, frame_at}
 use Rattle.bx_events.specs.Events.{LiveEvent}
-use Rattle.bx_sales.specs.Selling.{rows_of, marks_of, rows_with, marks_with}
+use Rattle.bx_sales.specs.Selling.{rows_of, marks_of}
 
 pub nothing_more : {X : Type 0} (xs : List X) → xs ++ [] ≡ xs
 nothing_more [] = refl

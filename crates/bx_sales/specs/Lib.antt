@@ -12,3 +12,4 @@ pub mod StayingFirst
 pub mod Recolouring
 pub mod Tags
 pub mod TagSizes
+pub mod SellingAll

@@ -1,5 +1,5 @@
 -- The line of a sale: the text of its booking, and before it the key under which it was asked for.
-use Rattle.std.specs.Prelude.{◌≡◌, ℕ, nat_le, ◌&&◌, Bool, false, List, [], ◌∷◌, ◌++◌, length, take, drop, codes, Option, Some, None, if◌then◌else◌}
+use Rattle.std.specs.Prelude.{◌≡◌, ℕ, nat_le, ◌&&◌, Bool, List, ◌++◌, length, take, drop, codes, Option, Some, None, if◌then◌else◌}
 use Rattle.std.specs.Str.{bytes_eq}
 use Rattle.bx_base.specs.Bookings.{Row}
 use Rattle.bx_sales.specs.declared.tag.Tag.{Tag}

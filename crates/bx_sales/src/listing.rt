@@ -1,6 +1,6 @@
-//! The bookings of a day, with one more.
+//! The bookings of a day, with more after them.
 
-ghost use Rattle.std.specs.Prelude.{◌≡◌, ◌++◌, ◌∷◌, [], not, true, false, map, length, ◌≤◌, ◌<◌, Err, IfOk, slice_set};
+ghost use Rattle.std.specs.Prelude.{◌≡◌, ◌++◌, ◌∷◌, [], not, true, false, map, length, replicate, ◌≤◌, ◌<◌, ◌+◌, Err, IfOk, OnOk, slice_set};
 ghost use Rattle.bx_base.specs.Bookings.{row_at};
 ghost use Rattle.bx_base.specs.declared.bookings.TheConstants.{MAX_BOOKINGS};
 ghost use Rattle.bx_day.specs.Invariant.{is_refused};
@@ -51,6 +51,33 @@ pub(crate) fn rows_of(alloc: Global, entries: &[Entry]) -> Result<Bookings, Allo
     Ok(rows)
 }
 
+/// Puts bookings after these.
+fn put_all(all: &mut Bookings, rows: &Bookings) -> Result<(), AddFault>
+    ensures rows { OnOk result (all.new ≡ all.old ++ rows.now) }
+    ensures full { result ≡ Err AddFault.Full → MAX_BOOKINGS < length all.old + length rows.now }
+{
+    for index in 0..rows.len() {
+        all.push(rows.nth(index))?;
+    }
+    Ok(())
+}
+
+/// The bookings of these entries, of which there have to be 16,000 at most, and more after them.
+pub(crate) fn rows_and(
+    alloc: Global,
+    entries: &[Entry],
+    rows: &Bookings,
+) -> Result<Bookings, AddFault>
+    ensures rows { IfOk result (λ b. b ≡ map (λ e. e.booking) entries.now ++ rows.now) }
+    ensures full { result ≡ Err AddFault.Full → MAX_BOOKINGS < length entries.now + length rows.now }
+{
+    let Ok(mut all) = rows_of(alloc, entries) else {
+        return Err(AddFault::Memory);
+    };
+    put_all(&mut all, rows)?;
+    Ok(all)
+}
+
 /// The booking at a place, where another one stands in this place.
 fn row_there(entries: &[Entry], index: usize, place: usize, booking: Booking) -> Booking
     requires { index < length entries.now }
@@ -94,6 +121,21 @@ pub(crate) fn marks_of(alloc: Global, entries: &[Entry]) -> Result<Vec<bool>, Al
         marks.push(is_marked)?;
     }
     Ok(marks)
+}
+
+/// The same, and so many more that are.
+pub(crate) fn marks_and(
+    alloc: Global,
+    entries: &[Entry],
+    count: u16,
+) -> Result<Vec<bool>, AllocError>
+    ensures { IfOk result (λ v. v.items ≡ map (λ e. not (is_refused e.standing)) entries.now ++ replicate count true) }
+{
+    let mut all = marks_of(alloc, entries)?;
+    for _ in 0..count {
+        all.push(true)?;
+    }
+    Ok(all)
 }
 
 /// The same, but for the one in this place, which is not.

@@ -1,4 +1,4 @@
-use Rattle.std.proofs.Common.{◌<◌, List, false, map, not, slice_set, get_or, OnOk, length, ap, subst, ◌-◌, ◌∙◌, arith}
+use Rattle.std.proofs.Common.{◌<◌, List, false, map, not, slice_set, get_or, OnOk, ap, subst, ◌-◌, ◌∙◌, arith}
 use Rattle.std.proofs.lemmas.List.{get_or_default}
 use Rattle.bx_day.specs.Day.{entry_at, no_entry}
 use Rattle.bx_day.specs.Invariant.{is_refused}

@@ -1,6 +1,5 @@
-use Rattle.std.proofs.Common.{◌≡◌, ◌-◌, List, map, not, slice_set, get_or, OnOk, ap, subst, ◌∙◌}
+use Rattle.std.proofs.Common.{◌-◌, List, map, not, slice_set, get_or, OnOk, ap, subst, ◌∙◌}
 use Rattle.std.proofs.lemmas.List.{get_or_default}
-use Rattle.bx_base.specs.Bookings.{Row}
 use Rattle.bx_day.specs.Day.{no_entry}
 use Rattle.bx_day.specs.Invariant.{is_refused}
 use Rattle.bx_day.specs.declared.entry.Entry.{Entry}

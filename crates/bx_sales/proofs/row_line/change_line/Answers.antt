@@ -1,4 +1,4 @@
-use Rattle.std.proofs.Common.{◌≡◌, ◌≤◌, [], ◌∷◌, ◌++◌, List, ℕ, length, decimal, codes, refl, subst, sym, ap, ◌∙◌, arith, append_assoc}
+use Rattle.std.proofs.Common.{◌≡◌, [], ◌∷◌, ◌++◌, List, ℕ, length, decimal, ap, ◌∙◌, arith, append_assoc}
 use Rattle.bx_sales.specs.Amending.{row_named, behind_row}
 use Rattle.bx_sales.proofs.RowLines.{named_again, text_again, short}
 use Rattle.bx_sales.proofs.row_line.change_line.Goals as goal

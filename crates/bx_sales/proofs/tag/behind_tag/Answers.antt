@@ -1,6 +1,5 @@
-use Rattle.std.proofs.Common.{◌≡◌, ◌-◌, length, drop, take, length-drop, sym, ap, ◌∙◌, if◌then◌else◌, arith, rules}
+use Rattle.std.proofs.Common.{◌-◌, length, drop, length-drop, sym, ap, ◌∙◌, if◌then◌else◌, arith}
 use Rattle.std.proofs.lemmas.List.{take_all}
-use Rattle.bx_sales.specs.Tags.{behind_tag}
 use Rattle.bx_sales.proofs.tag.behind_tag.Goals as goal
 
 pub returns-then-is_tagged : goal.returns-then-is_tagged

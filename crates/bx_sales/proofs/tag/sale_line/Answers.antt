@@ -1,4 +1,4 @@
-use Rattle.std.proofs.Common.{◌≡◌, Option, Some, None, sym, subst, false, rules}
+use Rattle.std.proofs.Common.{◌≡◌, Option, sym, subst, rules}
 use Rattle.bx_sales.specs.declared.tag.Tag.{Tag}
 use Rattle.bx_sales.specs.Tags.{sale_text, IsReadBack}
 use Rattle.bx_sales.proofs.Tags.{plain_back, tagged_back}
