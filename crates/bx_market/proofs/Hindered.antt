@@ -31,6 +31,7 @@ use Rattle.bx_market.specs.declared.market.Request.TheVariants.{Sell, Cancel, Ch
 use Rattle.bx_sales.specs.Tags.{row_behind}
 use Rattle.bx_market.specs.Deals.{Deal, Asked, Answered, ToldOfChange, acts_of}
 use Rattle.bx_market.specs.Stands.{Stand, Within, GoesByDeal, IsMarketRun, stand_day}
+use Rattle.bx_market.proofs.Noted.{moment_sold}
 use Rattle.bx_market.proofs.Eligible.{eligible_later}
 use Rattle.bx_market.proofs.Best.{told_of_best}
 use Rattle.bx_market.proofs.Logs.{change_on_log}
@@ -67,13 +68,9 @@ first_fit_bought : (channels : List Bool) (rows : List Row) (d d1 : Day) → IsF
 first_fit_bought channels [] d d1 first same = subst (IsFirstFitDay channels) (sym same) first
 first_fit_bought channels (row ∷ rows) d d1 first (next, is, rest) = first_fit_bought channels rows next d1 (first_fit_sold channels row d first next is) rest
 
-moment_bought : (channels : List Bool) (rows : List Row) (d d1 : Day) → AreSoldInTurn channels rows d d1 → d1.moment ≡ d.moment
-moment_bought channels [] d d1 same = ap (λ (x : Day). x.moment) same
-moment_bought channels (row ∷ rows) d d1 (next, is, rest) = moment_bought channels rows next d1 rest ∙ ap (λ (x : Day). x.moment) is.day
-
 module _ (channels : List Bool) (d : Day) (batch : List Row) (first : IsFirstFitDay channels d) where
   none_has : (row : Row) → d.moment < row.start → HasOtherChannels channels d row → ⊥
-  none_has row later h = no_other_plan channels row h.now (first_fit_bought channels h.sold d h.now first h.went) (let same = moment_bought channels h.sold d h.now h.went in omega (arith, later, same)) h.other
+  none_has row later h = no_other_plan channels row h.now (first_fit_bought channels h.sold d h.now first h.went) (let same = moment_sold channels h.sold d h.now h.went in omega (arith, later, same)) h.other
 
   not_of_choice : (chosen : List Bool) (i : ℕ) (b : Bool) (a : Answer) → (b ≡ true → d.moment < (row_at batch i).start) → IsToldOf channels d batch chosen i b a → a ≡ Refused OtherChannels → ⊥
   not_of_choice chosen i true a later told e = none_has (row_at batch i) (later refl) (subst (IsToldOf channels d batch chosen i true) e told)

@@ -10,6 +10,7 @@ mod Eligible
 mod AllPromised
 mod Chosen
 mod Settled
+mod Noted
 mod Best
 mod Hindered
 mod Untagged

@@ -26,7 +26,7 @@ use Rattle.bx_market.proofs.Totals.{pays_more, total, all_of, runs, one, sum_bel
 use Rattle.bx_market.proofs.Eligible.{eligible_later, eligible_places}
 use Rattle.bx_market.proofs.Chosen.{all_count, marks_count}
 
-abbrev as_result : Answer → Result Answer CannotLog
+abbrev pub as_result : Answer → Result Answer CannotLog
 as_result a = Ok a
 
 -- ---- what is sold is among what is chosen

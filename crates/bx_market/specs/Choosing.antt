@@ -14,6 +14,13 @@ free_rows (row ∷ rows) [] = []
 free_rows (row ∷ rows) (true ∷ eligible) = free_row row ∷ free_rows rows eligible
 free_rows (row ∷ rows) (false ∷ eligible) = free_rows rows eligible
 
+-- the same, as they are
+abbrev pub chosen_rows : List Row → List Bool → List Row
+chosen_rows [] chosen = []
+chosen_rows (row ∷ rows) [] = []
+chosen_rows (row ∷ rows) (true ∷ chosen) = row ∷ chosen_rows rows chosen
+chosen_rows (row ∷ rows) (false ∷ chosen) = chosen_rows rows chosen
+
 -- which bookings of the batch are accepted, where the first that is marked has this place in the plan
 abbrev pub chosen_marks : List Bool → List (Option ℕ) → ℕ → List Bool
 chosen_marks [] assigned place = []

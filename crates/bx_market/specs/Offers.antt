@@ -21,6 +21,9 @@ use Rattle.bx_market.specs.Deals.{Deal, acts_of, sold_of}
 use Rattle.bx_market.specs.Changes.{IsLineOf}
 use Rattle.bx_market.specs.Stands.{Stand, Within, Filing, Changing, IsMarketRun}
 use Rattle.bx_market.specs.Answers.{AreTold}
+use Rattle.bx_market.specs.Choices.{eligible_marks, IsBestBatch}
+use Rattle.bx_market.specs.Choosing.{chosen_rows}
+use Rattle.bx_sales.specs.Sold.{AreSoldInTurn}
 
 -- the world has gone through the deals of a run in which no second begins
 pub record Asks {W : Type 0} (dealt : W → List Deal → W → Type 0) (channels : List Bool) (old new : W) (from to : Stand) : Type 0 where
@@ -74,6 +77,23 @@ IsOfferSettled channels row d d1 (Ok (Refused NoChannel)) = ¬ FitsChannels (row
 IsOfferSettled channels row d d1 (Ok (Refused OtherChannels)) = IsOtherPlan channels row d
 IsOfferSettled channels row d d1 (Ok (Refused Memory)) = Unit {0}
 IsOfferSettled channels row d d1 (Err fault) = Unit {0}
+
+-- a booking is sold, or nothing happens
+abbrev pub IsNext : List Bool → Bool → Row → Day → Day → Type 0
+IsNext channels true row d d1 = IsSold channels row d d1
+IsNext channels false row d d1 = d1 ≡ d
+
+module _ {W : Type 0} (dealt : W → List Deal → W → Type 0) (tag : Option Tag) (old new : W) where
+  -- of a booking of any batch it is in the journal that it is sold, where it is so, or nothing is
+  abbrev pub IsNotedInAny : Row → Bool → Result Answer CannotLog → Type 0
+  IsNotedInAny row chosen result =
+      (channels : List Bool) (shown d d1 : Day) (batch sold : List Row) → IsNext channels chosen row d d1 → IsOffered dealt channels tag old new shown batch sold row d d1 result
+
+  -- wherever the best choice of a batch is sold, that is in the journal and on the disk, and its customer is told
+  abbrev pub NotesAny : ℕ → List Row → List Bool → List Bool → Result (Unit {0}) CannotLog → Type 0
+  NotesAny moment batch eligible chosen result =
+      (channels : List Bool) (d d1 : Day) → d.moment ≡ moment → eligible ≡ eligible_marks d.moment (length d.entries) batch → IsBestBatch channels d batch chosen → AreSoldInTurn channels (chosen_rows batch chosen) d d1
+      → OrOver dealt channels old new (Filing d d tag batch []) (Within (Between d1)) result
 
 -- why a booking is not chosen, where it is eligible or not
 abbrev pub why_not : ℕ → Row → Bool → NoSale

@@ -6,7 +6,7 @@ ghost use Rattle.bx_base.specs.declared.bookings.TheConstants.{MAX_BOOKINGS};
 ghost use Rattle.bx_colour.specs.Colouring.{is_in, FitsChannels};
 ghost use Rattle.bx_day.specs.Invariant.{is_refused};
 ghost use Rattle.bx_market.specs.Choices.{promised, eligible_marks, IsBestBatch};
-ghost use Rattle.bx_market.specs.Choosing.{free_row, free_rows, chosen_marks};
+ghost use Rattle.bx_market.specs.Choosing.{free_row, free_rows, chosen_rows, chosen_marks};
 
 use bx_base::{Booking, Bookings, ChannelSet, MAX_BOOKINGS};
 use bx_channels::Channel;
@@ -116,6 +116,24 @@ fn add_free(rows: &mut Bookings, batch: &Bookings, eligible: &[bool]) -> Result<
         }
     }
     Ok(())
+}
+
+/// The chosen bookings of a batch. `AllocError` where memory runs out.
+pub(crate) fn chosen_rows(
+    alloc: Global,
+    batch: &Bookings,
+    choice: &Choice,
+) -> Result<Bookings, AllocError>
+    requires { length choice.now.chosen.items ≡ length batch.now }
+    ensures { IfOk result (λ rows. rows ≡ chosen_rows batch.now choice.now.chosen.items) }
+{
+    let mut rows = Bookings::new(alloc);
+    for index in 0..batch.len() {
+        if choice.is_chosen(index) {
+            add(&mut rows, batch.nth(index))?;
+        }
+    }
+    Ok(rows)
 }
 
 /// Whether a plan accepts what stands at this place of it.

@@ -1,12 +1,12 @@
 //! A batch of bookings that a customer asks for.
 
-ghost use Rattle.std.specs.Prelude.{◌≡◌, ◌≤◌, ◌<◌, [], true, false, length, Ok, OnOk};
+ghost use Rattle.std.specs.Prelude.{◌≡◌, ◌≤◌, ◌<◌, [], true, false, length, Ok, IfOk, OnOk};
 ghost use Rattle.bx_live.specs.Runs.{Between};
 ghost use Rattle.bx_market.specs.Choices.{eligible_marks, IsBestBatch};
 ghost use Rattle.bx_market.specs.Stands.{Within, Filing, asked_batch};
-ghost use Rattle.bx_market.specs.Offers.{IsOfferSettled, OrOver, why_not, IsOfferedInAny, TellsOfAny, TellsOfMemory};
+ghost use Rattle.bx_market.specs.Offers.{IsOfferSettled, OrOver, why_not, IsOfferedInAny, IsNotedInAny, NotesAny, TellsOfAny, TellsOfMemory};
 
-use crate::choosing::{Choice, choose};
+use crate::choosing::{Choice, choose, chosen_rows};
 use crate::market::{Answer, Batch, Market};
 use arrayvec::ArrayVec;
 use bx_base::{Booking, Bookings, ChannelSet, MAX_BOOKINGS};
@@ -14,7 +14,7 @@ use bx_day::Exchange;
 use bx_events::{Amendment, LiveEvent};
 use bx_live::CannotLog;
 use bx_planfile::spell_booking;
-use bx_sales::{NoSale, Tag, sale_line, sell};
+use bx_sales::{NoSale, Tag, sale_line, sell, sell_all};
 use std::alloc::{AllocError, Global};
 
 /// Sells one booking of a batch, where it fits beside all that is promised, and puts it in the journal, with the key of the batch.
@@ -101,8 +101,81 @@ fn tell<W: Market>(world: &mut W, answers: &[Answer], is_any_sold: bool) -> Resu
     Ok(())
 }
 
-/// Sells the bookings that are chosen, in the order of the rows; what is sold is on the disk before the customer is answered.
+/// Puts in the journal, with the key of the batch, that a booking is sold that was chosen; of another one it is said why it is not.
+fn note_one<W: Market>(
+    world: &mut W,
+    moment: u32,
+    tag: Option<Tag>,
+    booking: Booking,
+    is_eligible: bool,
+    is_chosen: bool,
+) -> Result<Answer, CannotLog>
+    ensures noted { IsNotedInAny W.dealt tag world.old world.new booking is_chosen result }
+    ensures chosen { is_chosen ≡ true → IfOk result (λ answer. answer ≡ Answer.Accepted) }
+    ensures left_out { is_chosen ≡ false → result ≡ Ok (Answer.Refused (why_not moment booking is_eligible)) }
+{
+    // Read for the prover alone, which learns from it that this is a booking.
+    let _start = booking.start();
+    if !is_chosen {
+        return Ok(Answer::Refused(why_not(moment, booking, is_eligible)));
+    }
+    let line = sale_line(tag, &spell_booking(booking));
+    world.log(LiveEvent::Amended(Amendment::Sold, &line))?;
+    Ok(Answer::Accepted)
+}
+
+/// Puts the bookings of a batch in the journal that are chosen and sold, in the order of the rows, and brings them to the disk before the customer is
+/// answered.
+fn note_all<W: Market>(
+    world: &mut W,
+    moment: u32,
+    tag: Option<Tag>,
+    batch: &Bookings,
+    choice: &Choice,
+) -> Result<(), CannotLog>
+    requires eligible { length choice.now.eligible.items ≡ length batch.now }
+    requires chosen { length choice.now.chosen.items ≡ length batch.now }
+    ensures { NotesAny W.dealt tag world.old world.new moment batch.now choice.now.eligible.items choice.now.chosen.items result }
+{
+    let mut answers = ArrayVec::<Answer, MAX_BOOKINGS>::new();
+    let mut is_any_sold = false;
+    for index in 0..batch.len() {
+        let booking = batch.nth(index);
+        let (is_eligible, is_chosen) = (choice.is_eligible(index), choice.is_chosen(index));
+        let answer = note_one(world, moment, tag, booking, is_eligible, is_chosen)?;
+        is_any_sold = is_sold_now(is_any_sold, answer);
+        answers.push(answer);
+    }
+    tell(world, &answers, is_any_sold)
+}
+
+/// Sells the bookings that are chosen, in the order of the rows; what is sold is on the disk before the customer is answered. All are sold in one step,
+/// where that can be done, and else one after another.
 fn sell_chosen<W: Market>(
+    alloc: Global,
+    exchange: &mut Exchange,
+    world: &mut W,
+    channels: ChannelSet,
+    tag: Option<Tag>,
+    batch: &Bookings,
+    choice: &Choice,
+) -> Result<(), CannotLog>
+    requires eligible { choice.now.eligible.items ≡ eligible_marks exchange.old.moment (length exchange.old.entries) batch.now }
+    requires best { IsBestBatch channels exchange.old batch.now choice.now.chosen.items }
+    ensures sold { OrOver W.dealt channels world.old world.new (Filing exchange.old exchange.old tag batch.now []) (Within (Between exchange.new)) result }
+    ensures moment { OnOk result (exchange.new.moment ≡ exchange.old.moment) }
+{
+    let moment = exchange.moment();
+    if let Ok(chosen) = chosen_rows(alloc, batch, choice) {
+        if sell_all(alloc, exchange, channels, &chosen).is_ok() {
+            return note_all(world, moment, tag, batch, choice);
+        }
+    }
+    sell_in_turn(alloc, exchange, world, channels, tag, batch, choice)
+}
+
+/// Sells the bookings that are chosen, one after another, in the order of the rows; what is sold is on the disk before the customer is answered.
+fn sell_in_turn<W: Market>(
     alloc: Global,
     exchange: &mut Exchange,
     world: &mut W,

@@ -3,7 +3,7 @@ use Rattle.bx_market.specs.Deals.{sold_of}
 use Rattle.bx_market.specs.Offers.{Asks}
 use Rattle.bx_market.specs.Stands.{Filing}
 use Rattle.bx_market.proofs.Settled.{AreSettled}
-use Rattle.bx_market.proofs.offering.sell_chosen.Given as goal
+use Rattle.bx_market.proofs.offering.sell_in_turn.Given as goal
 
 abbrev pub invariant-loop-index : goal.invariant-loop-index
 invariant-loop-index g l = record {
