@@ -11,16 +11,16 @@ use Rattle.bx_office_door.specs.declared.guest.Guest.{Guest}
 abbrev pub StaysQuiet : Guest → Guest → Type 0
 StaysQuiet old new = waits_for_answer old.client.stage ≡ false → waits_for_answer new.client.stage ≡ false
 
--- 10 seconds, in nanoseconds, and a second more for each 16,384 octets of a body that came; who came beyond the places has 2 seconds
+-- 10 seconds, in nanoseconds, and a second more for each 16,384 octets of a body that came; who came beyond the places has a second
 abbrev pub patience_of : Bool → ℕ → ℕ
-patience_of is_spare octets = if is_spare then 2_000_000_000 else 10_000_000_000 + octets / 16_384 * 1_000_000_000
+patience_of is_spare octets = if is_spare then 1_000_000_000 else 10_000_000_000 + octets / 16_384 * 1_000_000_000
 
 -- so much time is over: since it came, was sent its last answer, or began its request; or, where others wait, since an octet went last
 abbrev pub is_over_since : ℕ → Bool → Option ℕ → Guest → Bool
 is_over_since now is_full None g = false
 is_over_since now is_full (Some since) g =
     not (waits_for_answer g.client.stage)
-    && (nat_lt (patience_of g.is_spare (length g.client.body.items)) (now - since) || (is_full && nat_lt 2_000_000_000 (now - g.heard)))
+    && (nat_lt (patience_of g.is_spare (length g.client.body.items)) (now - since) || (is_full && nat_lt 1_000_000_000 (now - g.heard)))
 
 -- its time is over. One that waits for its answer has time
 abbrev pub is_out_of_time : ℕ → Bool → Guest → Bool

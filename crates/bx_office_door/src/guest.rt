@@ -12,8 +12,8 @@ use std::alloc::Global;
 /// How long a request takes at most, and how long the next one is waited for: 10 seconds, in nanoseconds.
 const PATIENCE: u128 = 10_000_000_000;
 
-/// How long a client may send and take nothing where others wait, and how long one has that came beyond the places: 2 seconds.
-const BRIEF: u128 = 2_000_000_000;
+/// How long a client may send and take nothing where others wait, and how long one has that came beyond the places: a second.
+const BRIEF: u128 = 1_000_000_000;
 
 /// How many octets of a body give it a second more.
 const BODY_A_SECOND: usize = 16_384;
