@@ -1,8 +1,11 @@
 #!/usr/bin/env python3
-"""Writes a booking text of one of ten shapes of day, 2026-01-05 in UTC.
+"""Writes a booking text of one of ten shapes of day, or of four whose load does not grow with the count, 2026-01-05 in UTC.
 
     bench/days.py SHAPE [COUNT]      COUNT rows, 4,000 if not given; the same rows each time
-    bench/days.py                    names the shapes
+    bench/days.py                    names the ten shapes
+    bench/days.py loads              names the four
+
+Of those whose load is fixed a day of more rows has shorter calls, so that as many run at once on the mean.
 """
 import random
 import sys
@@ -77,7 +80,41 @@ def chains(count):
         yield start, start + 10, 6 if row % 3 == 1 else 4
 
 
+def spread(count, longest, opening, closing):
+    """Calls of up to so many seconds that start within these."""
+    for _ in range(count):
+        start = random.randrange(opening, closing)
+        yield start, start + random.randrange(1, longest + 1), random.randrange(1, 1000)
+
+
+def within_day(count, load):
+    """Calls of such a length that so many run at once on the mean of the day."""
+    longest = 2 * load * DAY // count
+    return spread(count, longest, 0, DAY - longest)
+
+
+def load_8(count):
+    """8 calls at once on the mean of the day, so that 30 channels carry all."""
+    return within_day(count, 8)
+
+
+def load_25(count):
+    """25 calls at once: 30 channels are too few now and then."""
+    return within_day(count, 25)
+
+
+def load_50(count):
+    """50 calls at once: 30 channels are too few nearly always."""
+    return within_day(count, 50)
+
+
+def load_office(count):
+    """100 calls at once within some three hours; of 4,000 rows the same as office_hours."""
+    return spread(count, 2 * 100 * 12_000 // count, 30_000, 42_000)
+
+
 SHAPES = [short_calls, office_hours, two_peaks, long_calls, by_the_second, all_at_noon, nested, staircase, equal_pay, chains]
+LOADS = [load_8, load_25, load_50, load_office]
 
 
 def stamp(second):
@@ -88,7 +125,10 @@ def main():
     if len(sys.argv) < 2:
         print("\n".join(shape.__name__ for shape in SHAPES))
         return
-    shape = next(it for it in SHAPES if it.__name__ == sys.argv[1])
+    if sys.argv[1] == "loads":
+        print("\n".join(shape.__name__ for shape in LOADS))
+        return
+    shape = next(it for it in SHAPES + LOADS if it.__name__ == sys.argv[1])
     random.seed(1995)
     print("start,end,number,pay")
     for row, (start, end, pay) in enumerate(shape(int(sys.argv[2]) if len(sys.argv) > 2 else 4_000)):
