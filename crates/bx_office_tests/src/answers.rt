@@ -124,6 +124,9 @@ bx_pay{outcome=\"live\"} 0
 bx_pay{outcome=\"carried\"} 0
 bx_pay{outcome=\"unanswered\"} 0
 bx_pay{outcome=\"missed\"} 0
+# TYPE bx_rows_left gauge
+# HELP bx_rows_left Bookings that the last plan has room for.
+bx_rows_left 15997
 # TYPE bx_channels_in_maintenance gauge
 # HELP bx_channels_in_maintenance Channels that have no call until the next day.
 bx_channels_in_maintenance 0
@@ -165,6 +168,9 @@ bx_pay{outcome=\"live\"} 0
 bx_pay{outcome=\"carried\"} 5
 bx_pay{outcome=\"unanswered\"} 0
 bx_pay{outcome=\"missed\"} 0
+# TYPE bx_rows_left gauge
+# HELP bx_rows_left Bookings that the last plan has room for.
+bx_rows_left 15997
 # TYPE bx_channels_in_maintenance gauge
 # HELP bx_channels_in_maintenance Channels that have no call until the next day.
 bx_channels_in_maintenance 1

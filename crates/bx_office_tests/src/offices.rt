@@ -351,6 +351,41 @@ fn sixteen_are_told(rt: HostRuntime) -> Result<(), Fail> {
 }
 
 #[test]
+fn one_long_answer_is_given_a_second(rt: HostRuntime) -> Result<(), Fail> {
+    let alloc = rt.alloc();
+    let (door, port) = opened(&rt, alloc)?;
+    let mut first = client(&rt, alloc, port, "GET /plan", "\r\n")?;
+    let mut second = client(&rt, alloc, port, "GET /chart.svg", "\r\n")?;
+    let mut third = client(&rt, alloc, port, "GET /outcomes", "\r\n")?;
+    assert!(rt;
+        ran(alloc, &door, QUIET) == Some((2, 0, 0)),
+        "nothing is sold"
+    );
+    assert!(rt;
+        is_told_of(
+            &mut first,
+            "date: Thu, 01 Jan 1970 00:00:01 GMT\r\ncontent-type: text/plain"
+        ),
+        "in the first second"
+    );
+    assert!(rt;
+        is_told_of(
+            &mut second,
+            "date: Thu, 01 Jan 1970 00:00:02 GMT\r\ncontent-type: image/svg+xml"
+        ),
+        "in the second one"
+    );
+    assert!(rt;
+        is_told_of(
+            &mut third,
+            "date: Thu, 01 Jan 1970 00:00:03 GMT\r\ncontent-type: text/plain"
+        ),
+        "in the third one"
+    );
+    Ok(())
+}
+
+#[test]
 fn a_slow_one_delays_nobody(rt: HostRuntime) -> Result<(), Fail> {
     let alloc = rt.alloc();
     let (door, port) = opened(&rt, alloc)?;

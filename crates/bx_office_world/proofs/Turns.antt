@@ -1,12 +1,12 @@
 -- Who waits is answered, one after another.
-use Rattle.std.proofs.Common.{◌≡◌, refl, sym, subst, ap, ◌∙◌, inl, inr, ℕ, ◌+◌, ◌≤◌, List, [], ◌∷◌, ◌++◌, length, Option, Some, None, arith, length-append}
+use Rattle.std.proofs.Common.{◌≡◌, refl, sym, subst, ap, ◌∙◌, inl, inr, ℕ, ◌+◌, ◌<◌, ◌≤◌, ◌||◌, Bool, true, false, true≢false, List, [], ◌∷◌, ◌++◌, length, Option, Some, None, arith, length-append}
 use Rattle.bx_market.specs.declared.market.Request.{Request}
 use Rattle.bx_office_world.specs.declared.ledger.Keyed.{Keyed}
 use Rattle.bx_day.specs.Day.{Day}
 use Rattle.bx_office.specs.declared.gate.Route.{Route}
 use Rattle.bx_office_door.specs.Guests.{first_asked}
 use Rattle.bx_office_door.specs.declared.guest.Guest.{Guest}
-use Rattle.bx_office_world.specs.Served.{IsTurn, IsTurnTaken, IsRequestTaken, AreServed, IsServing}
+use Rattle.bx_office_world.specs.Served.{is_long, has_long, EndsAtLong, IsTurn, IsTurnTaken, IsRequestTaken, AreServed, IsServing}
 use Rattle.bx_office_world.specs.declared.serving.Desk.{Desk}
 use Rattle.bx_office_world.specs.declared.serving.Pending.{Pending}
 
@@ -14,28 +14,70 @@ served_more : (desk : Desk) (requests : List Keyed) (d : Day) (told : List (ℕ 
 served_more desk requests d [] turn old mid new e f t = (subst (λ (gs : List Guest). first_asked gs ≡ Some turn) e f, new, subst (λ (gs : List Guest). IsTurn desk requests d turn.0 turn.1 gs new) e t, refl)
 served_more desk requests d (x ∷ told) turn old mid new p f t = (p.0, p.1, p.2, served_more desk requests d told turn p.1 mid new p.3 f t)
 
--- so many were answered
+-- ---- answers that take long
+
+first_quick : (a b : Bool) → (a || b) ≡ false → a ≡ false
+first_quick true b e = e
+first_quick false b e = refl
+
+rest_quick : (a b : Bool) → (a || b) ≡ false → b ≡ false
+rest_quick true b e = absurd (true≢false e)
+rest_quick false b e = e
+
+-- after answers none of which takes long comes one of either kind
+long_at_end : (told : List (ℕ × Route)) (turn : ℕ × Route) → has_long told ≡ false → has_long (told ++ turn ∷ []) ≡ is_long turn.1
+long_at_end [] turn e = or_false (is_long turn.1)
+  where
+    or_false : (b : Bool) → (b || false) ≡ b
+    or_false true = refl
+    or_false false = refl
+long_at_end (x ∷ told) turn e = ap (λ (b : Bool). b || has_long (told ++ turn ∷ [])) (first_quick (is_long x.1) (has_long told) e) ∙ long_at_end told turn (rest_quick (is_long x.1) (has_long told) e)
+
+-- .. and it is the last one
+ends_at_long : (told : List (ℕ × Route)) (turn : ℕ × Route) → has_long told ≡ false → EndsAtLong (told ++ turn ∷ [])
+ends_at_long [] turn e = ((λ long. refl), tt)
+ends_at_long (x ∷ told) turn e = ((λ long. absurd (true≢false (sym long ∙ first_quick (is_long x.1) (has_long told) e))), ends_at_long told turn (rest_quick (is_long x.1) (has_long told) e))
+
+quick_ends : (told : List (ℕ × Route)) → has_long told ≡ false → EndsAtLong told
+quick_ends [] e = tt
+quick_ends (x ∷ told) e = ((λ long. absurd (true≢false (sym long ∙ first_quick (is_long x.1) (has_long told) e))), quick_ends told (rest_quick (is_long x.1) (has_long told) e))
+
+-- so many were answered, none of which took long
 pub record SoFar (desk : Desk) (requests : List Keyed) (d : Day) (count : ℕ) (old new : List Guest) : Type 0 where
   pub told : List (ℕ × Route)
   pub many : length told ≡ count
+  pub quick : has_long told ≡ false
   pub served : AreServed desk requests d told old new
 
 pub none_yet : (desk : Desk) (requests : List Keyed) (d : Day) (gs : List Guest) → SoFar desk requests d 0 gs gs
-none_yet desk requests d gs = record { told = []; many = refl; served = refl }
+none_yet desk requests d gs = record { told = []; many = refl; quick = refl; served = refl }
 
-pub one_more : (desk : Desk) (requests : List Keyed) (d : Day) (count number : ℕ) (route : Route) (old mid new : List Guest) → SoFar desk requests d count old mid → first_asked mid ≡ Some (number, route) → IsTurn desk requests d number route mid new → SoFar desk requests d (count + 1) old new
-one_more desk requests d count number route old mid new s f t = record {
+pub one_more : (desk : Desk) (requests : List Keyed) (d : Day) (count number : ℕ) (route : Route) (old mid new : List Guest) → SoFar desk requests d count old mid → first_asked mid ≡ Some (number, route) → IsTurn desk requests d number route mid new → is_long route ≡ false → SoFar desk requests d (count + 1) old new
+one_more desk requests d count number route old mid new s f t e = record {
   told = s.told ++ (number, route) ∷ [];
   many = length-append s.told ((number, route) ∷ []) ∙ ap (λ (n : ℕ). n + 1) s.many;
+  quick = long_at_end s.told (number, route) s.quick ∙ e;
   served = served_more desk requests d s.told (number, route) old mid new s.served f t;
 }
 
--- nobody waits any more, or enough were answered
+-- nobody waits any more, enough were answered, or the last answer took long
 pub all_served : (desk : Desk) (requests : List Keyed) (d : Day) (count : ℕ) (old new : List Guest) → count ≤ 16 → SoFar desk requests d count old new → first_asked new ≡ None → IsServing desk requests d old new None
-all_served desk requests d count old new le s e = record { told = s.told; few = omega (arith, s.many); served = s.served; next = inl e }
+all_served desk requests d count old new le s e = record { told = s.told; few = omega (arith, s.many); one_long = quick_ends s.told s.quick; served = s.served; next = inl e }
 
 pub enough_served : (desk : Desk) (requests : List Keyed) (d : Day) (old new : List Guest) → SoFar desk requests d 16 old new → IsServing desk requests d old new None
-enough_served desk requests d old new s = record { told = s.told; few = omega (arith, s.many); served = s.served; next = inr s.many }
+enough_served desk requests d old new s = record { told = s.told; few = omega (arith, s.many); one_long = quick_ends s.told s.quick; served = s.served; next = inr (inl s.many) }
+
+pub long_served : (desk : Desk) (requests : List Keyed) (d : Day) (count number : ℕ) (route : Route) (old mid new : List Guest) → count < 16 → SoFar desk requests d count old mid → first_asked mid ≡ Some (number, route)
+    → IsTurn desk requests d number route mid new → is_long route ≡ true → IsServing desk requests d old new None
+long_served desk requests d count number route old mid new le s f t e =
+    let many : length (s.told ++ (number, route) ∷ []) ≡ count + 1 = length-append s.told ((number, route) ∷ []) ∙ ap (λ (n : ℕ). n + 1) s.many in
+    record {
+      told = s.told ++ (number, route) ∷ [];
+      few = omega (arith, many);
+      one_long = ends_at_long s.told (number, route) s.quick;
+      served = served_more desk requests d s.told (number, route) old mid new s.served f t;
+      next = inr (inr (long_at_end s.told (number, route) s.quick ∙ e));
+    }
 
 -- what is wanted next
 pub next_wanted : (desk : Desk) (requests : List Keyed) (d : Day) (count : ℕ) (old mid new : List Guest) (number : ℕ) (route : Route) (next : Pending × Request) → count ≤ 16 → SoFar desk requests d count old mid → first_asked mid ≡ Some (number, route)
@@ -43,8 +85,9 @@ pub next_wanted : (desk : Desk) (requests : List Keyed) (d : Day) (count : ℕ) 
 next_wanted desk requests d count old mid new number route next le s f (same, taken) = record {
   told = s.told;
   few = omega (arith, s.many);
+  one_long = quick_ends s.told s.quick;
   served = subst (λ (gs : List Guest). AreServed desk requests d s.told old gs) (sym same) s.served;
-  next = (number, route, ap first_asked same ∙ f, subst (λ (gs : List Guest). IsRequestTaken desk d number route gs next.0 next.1) (sym same) taken);
+  next = (s.quick, number, route, ap first_asked same ∙ f, subst (λ (gs : List Guest). IsRequestTaken desk d number route gs next.0 next.1) (sym same) taken);
 }
 
 -- nothing is wanted

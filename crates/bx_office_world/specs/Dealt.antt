@@ -1,7 +1,7 @@
 -- Private: what lies between two states of a world with an office: the acts of the world inside, and under a key one batch is asked for at most,
 -- and none where something was asked for under it before.
-use Rattle.std.specs.Prelude.{◌≡◌, ℕ, List, [], ◌∷◌, ◌++◌, Option, Some, None}
-use Rattle.std.proofs.Common.{refl, sym, subst, ap, ◌∙◌}
+use Rattle.std.specs.Prelude.{◌≡◌, ℕ, List, [], ◌∷◌, ◌++◌, Some, None}
+use Rattle.std.proofs.Common.{refl, sym, subst, ap}
 use Rattle.bx_live.specs.Acts.{Act}
 use Rattle.bx_market.specs.Deals.{Deal, Ran, Asked, Answered, ToldOfChange, acts_of, all_ran}
 use Rattle.bx_office_world.specs.Keying.{AskOnce}

@@ -1,5 +1,5 @@
 -- Private: what was asked for under keys, and what was told of it.
-use Rattle.std.specs.Prelude.{◌≡◌, ◌<◌, ◌+◌, ◌==◌, ◌&&◌, ℕ, min, Bool, true, false, List, [], ◌∷◌, ◌++◌, map, length, take, drop, Option, Some, None, slice_index_or, slice_range, if◌then◌else◌}
+use Rattle.std.specs.Prelude.{◌≡◌, ◌==◌, ◌&&◌, ℕ, Bool, List, [], ◌∷◌, map, take, drop, Option, Some, None, slice_index_or, if◌then◌else◌}
 use Rattle.std.specs.Bool.{beq}
 use Rattle.std.specs.Str.{bytes_eq}
 use Rattle.bx_base.specs.Bookings.{Row}
@@ -15,8 +15,8 @@ use Rattle.bx_market.specs.declared.market.Batch.{Batch}
 use Rattle.bx_market.specs.declared.market.Request.{Request}
 use Rattle.bx_office_world.specs.declared.serving.Pending.{Pending}
 use Rattle.bx_office_world.specs.declared.serving.Selling.{Selling}
-use Rattle.bx_office_world.specs.KnownKeys.{keys_in, key_at, KnowsKey}
-use Rattle.bx_office_world.specs.Keying.{LacksKey, IsKeyPut, IsKeyNew, request_tag}
+use Rattle.bx_office_world.specs.KnownKeys.{KnowsKey}
+use Rattle.bx_office_world.specs.Keying.{IsKeyPut, IsKeyNew, request_tag}
 use Rattle.bx_office_world.specs.declared.ledger.Keyed.{Keyed}
 use Rattle.bx_office_world.specs.declared.ledger.Told.{Told}
 use Rattle.bx_office_world.specs.declared.ledger.Told.TheVariants as told

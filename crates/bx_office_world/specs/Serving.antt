@@ -1,5 +1,5 @@
 -- Private: what each is told who waits at the door.
-use Rattle.std.specs.Prelude.{◌≡◌, ◌⊎◌, ℕ, ◌≤◌, Bool, true, false, List, [], ◌∷◌, length, codes, Option, Some, None, IfSome, Vec}
+use Rattle.std.specs.Prelude.{◌≡◌, ◌⊎◌, ℕ, Bool, true, false, List, length, codes, Option, Some, None, IfSome, Vec}
 use Rattle.std.specs.declared.alloc.Global.{Global}
 use Rattle.bx_office_world.specs.Offered.{within_day}
 use Rattle.bx_office_world.specs.Sold.{sold_text}
@@ -19,13 +19,12 @@ use Rattle.bx_market.specs.declared.market.Batch.{Batch}
 use Rattle.bx_market.specs.declared.market.Answer.{Answer}
 use Rattle.bx_office.specs.declared.client.Client.{Client}
 use Rattle.bx_office.specs.declared.gate.Route.{Route}
-use Rattle.bx_office.specs.declared.gate.Route.TheVariants as routes
 use Rattle.bx_office.specs.declared.reply.Allowed.TheVariants as methods
 use Rattle.bx_office.specs.declared.reply.Kind.TheVariants as kinds
 use Rattle.bx_office.specs.declared.reply.Reply.{Reply}
 use Rattle.bx_office.specs.declared.reply.Status.{Status}
 use Rattle.bx_office.specs.declared.reply.Status.TheVariants as statuses
-use Rattle.bx_office_door.specs.Guests.{client_of, first_asked, IsAnswered, IsAnsweredThere, IsSentAway}
+use Rattle.bx_office_door.specs.Guests.{client_of, IsAnswered, IsAnsweredThere, IsSentAway}
 use Rattle.bx_office_door.specs.Doors.{is_early}
 use Rattle.bx_office_door.specs.declared.door.Door.{Door}
 use Rattle.bx_office_door.specs.declared.guest.Guest.{Guest}

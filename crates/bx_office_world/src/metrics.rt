@@ -4,11 +4,12 @@ ghost use Rattle.std.specs.Prelude.{◌≡◌, ◌++◌, ◌≤◌, length, repl
 ghost use Rattle.bx_base.specs.declared.bookings.TheConstants.{MAX_BOOKINGS};
 ghost use Rattle.bx_records.specs.Totals.{how_many, pays_of};
 ghost use Rattle.bx_office_world.specs.Tallies.{is_such};
-ghost use Rattle.bx_office_world.specs.Metrics.{word_of, sample, family_text, bookings_text, pays_text, maintenance_text, link_text, cause_line, clearing_line, clearings_text, office_text, sync_text, day_text, figures_text, metrics_text};
+ghost use Rattle.bx_office_world.specs.Metrics.{word_of, sample, family_text, bookings_text, pays_text, rows_text, maintenance_text, link_text, cause_line, clearing_line, clearings_text, office_text, sync_text, day_text, figures_text, metrics_text};
 
 use crate::fault::NoAnswer;
 use crate::maintenance::maintained;
 use crate::tallies::{Became, tally_of};
+use bx_base::MAX_BOOKINGS;
 use bx_day::{Entry, Exchange};
 use bx_live::Begin;
 use bx_text::append_decimal;
@@ -145,6 +146,18 @@ fn push_pays(text: &mut Vec<u8>, entries: &[Entry]) -> Result<(), AllocError>
     push_pay(text, entries, Became::Missed)
 }
 
+/// Appends how many rows the day has left.
+fn push_rows(text: &mut Vec<u8>, entries: &[Entry]) -> Result<(), AllocError>
+    requires { length entries.now ≤ MAX_BOOKINGS }
+    ensures { OnOk result (text.new.items ≡ text.old.items ++ rows_text entries.now) }
+{
+    push_family(
+        text,
+        "# TYPE bx_rows_left gauge\n# HELP bx_rows_left Bookings that the last plan has room for.\nbx_rows_left ",
+        (MAX_BOOKINGS - entries.len()) as u64,
+    )
+}
+
 /// Appends how many channels are in maintenance.
 fn push_maintenance(text: &mut Vec<u8>, exchange: &Exchange) -> Result<(), AllocError>
     ensures { OnOk result (text.new.items ≡ text.old.items ++ maintenance_text exchange.now) }
@@ -250,6 +263,7 @@ fn push_day(text: &mut Vec<u8>, exchange: &Exchange) -> Result<(), AllocError>
     )?;
     push_bookings(text, exchange.entries())?;
     push_pays(text, exchange.entries())?;
+    push_rows(text, exchange.entries())?;
     push_maintenance(text, exchange)
 }
 
@@ -275,7 +289,7 @@ fn text_of(alloc: Global, exchange: &Exchange, figures: &Figures) -> Result<Vec<
 }
 
 /// The figures of the day so far, as OpenMetrics: the moment; of the bookings of the last plan how many there are and what they pay, by what has
-/// become of them; the channels in maintenance; and what the world has counted. `Memory` where memory runs out.
+/// become of them; for how many more the plan has room; the channels in maintenance; and what the world has counted. `Memory` where memory runs out.
 pub fn metrics_text(
     alloc: Global,
     exchange: &Exchange,

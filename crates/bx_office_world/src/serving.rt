@@ -7,7 +7,7 @@ ghost use Rattle.bx_office_world.specs.KnownKeys.{known_keys};
 ghost use Rattle.bx_office_world.specs.Keying.{IsKeyPut};
 ghost use Rattle.bx_office_world.specs.Ledgers.{tag_asked, IsBatchKeyTaken, IsKeyTaken};
 ghost use Rattle.bx_office_world.specs.Serving.{reply_status_of, book_status, IsRefusing, IsServed, IsBatchIn, IsBadBatch, IsBatchRead, IsToldAgain, IsBatchTaken, IsToldSold, IsPrepared};
-ghost use Rattle.bx_office_world.specs.Served.{IsTurnTaken, IsServing};
+ghost use Rattle.bx_office_world.specs.Served.{is_long, IsTurnTaken, IsServing};
 ghost use Rattle.bx_office_door.specs.Guests.{client_of};
 
 use crate::changes::{Changing, next_cancel, next_change};
@@ -134,6 +134,16 @@ fn tag_of_client(door: &Door, number: u64) -> Option<Tag>
     let client = door.client(number)?;
     let key = client.key()?;
     Some(tag_for(key.octets(), client.body()))
+}
+
+/// Whether an answer may cost a tenth of a second of the processor on a full day.
+fn is_long(route: Route) -> bool
+    ensures { result ≡ is_long route }
+{
+    match route {
+        Route::Plan | Route::Quote | Route::Chart => true,
+        _ => false,
+    }
 }
 
 /// Puts down the key of a request of so many bookings, after so many rows of the plan, where it has one, and whether that is done.
@@ -325,7 +335,8 @@ impl Desk<'_> {
     }
 
     /// Answers who waits, each in its turn, up to the first that asks for a sale or a change, or up to so many: whose it is, and what is wanted.
-    /// Who has hung up by then is sent away, and nothing is sold or changed for it.
+    /// Who has hung up by then is sent away, and nothing is sold or changed for it. An answer that takes long (`is_long`) is the last: nothing
+    /// is wanted then, so that the market does not ask again before the next second, which several of them would make late.
     pub(crate) fn serve(
         &self,
         alloc: Global,
@@ -340,6 +351,9 @@ impl Desk<'_> {
             let (number, route) = door.asked()?;
             if let Some(next) = self.next(alloc, door, ledger, exchange, number, route) {
                 return Some(next);
+            }
+            if is_long(route) {
+                return None;
             }
         }
         None

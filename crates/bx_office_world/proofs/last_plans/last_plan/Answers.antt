@@ -1,6 +1,6 @@
 use Rattle.std.proofs.Common.{◌≡◌, sym, ap, ◌∙◌, subst, List, Option, ℕ, inl, inr, rules}
 use Rattle.bx_base.specs.Bookings.{Row}
-use Rattle.bx_base.specs.PlanParts.{Parts, parts_of}
+use Rattle.bx_base.specs.PlanParts.{parts_of}
 use Rattle.bx_day.specs.declared.entry.Entry.{Entry}
 use Rattle.bx_planner.proofs.Proved.{proved_plan}
 use Rattle.bx_planner.specs.Musts.{IsTooManyMust}

@@ -1,4 +1,4 @@
-use Rattle.std.proofs.Common.{◌≡◌, ◌<◌, length, refl, sym, subst, ℕ, arith, rules}
+use Rattle.std.proofs.Common.{refl, arith}
 use Rattle.bx_office_world.specs.KnownKeys.{keys_in}
 use Rattle.bx_office_world.proofs.Keyings.{key_count, keys_kept, known_still}
 use Rattle.bx_office_world.proofs.ledger.Ledger.sell.Goals as goal
