@@ -8,7 +8,7 @@ use Rattle.bx_office.specs.Rows.{IsPlanRow, booking_path}
 use Rattle.bx_office.specs.declared.gate.Place.{Place}
 use Rattle.bx_office.specs.declared.gate.Request.{Request}
 use Rattle.bx_office.specs.declared.gate.Route.{Route}
-use Rattle.bx_office.specs.declared.gate.Route.TheVariants.{Home, Script, Style, Bookings, Quote, Plan, Outcomes, Records, Chart, Metrics, Health, Ready, Office, Cancel, Change}
+use Rattle.bx_office.specs.declared.gate.Route.TheVariants.{Home, Script, Style, Bookings, Quote, Free, Plan, Outcomes, Records, Chart, Metrics, Health, Ready, Office, Cancel, Change}
 use Rattle.bx_office.specs.declared.gate.Refusal.{Refusal}
 use Rattle.bx_office.specs.declared.gate.Refusal.TheVariants.{Doubled, OtherHost, OtherOrigin, UnknownMethod, NotFound, WrongMethod, NotCsv, Coded, NoLength, BadKey}
 
@@ -45,6 +45,7 @@ path_of Script = codes "/office.js"
 path_of Style = codes "/office.css"
 path_of Bookings = codes "/bookings"
 path_of Quote = codes "/quote"
+path_of Free = codes "/free"
 path_of Plan = codes "/plan"
 path_of Outcomes = codes "/outcomes"
 path_of Records = codes "/records"

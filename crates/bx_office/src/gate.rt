@@ -38,6 +38,8 @@ pub enum Route {
     Bookings,
     /// `GET /quote?start=..&end=..`: what a call would have to pay.
     Quote,
+    /// `GET /free?length=..&from=..&to=..`: when a call of so many seconds may start.
+    Free,
     /// `GET /plan`: the plan of all that is promised.
     Plan,
     /// `GET /outcomes`: what has become of each booking.
@@ -133,6 +135,8 @@ fn route_at(path: &[u8]) -> Option<Route>
         Some(Route::Bookings)
     } else if is_word(path, "/quote") {
         Some(Route::Quote)
+    } else if is_word(path, "/free") {
+        Some(Route::Free)
     } else if is_word(path, "/plan") {
         Some(Route::Plan)
     } else if is_word(path, "/outcomes") {

@@ -329,6 +329,7 @@ fn name_of(route: Route) -> &'static [u8] {
     match route {
         Route::Bookings => b"Bookings|",
         Route::Quote => b"Quote|",
+        Route::Free => b"Free|",
         Route::Plan => b"Plan|",
         Route::Cancel(_) => b"Cancel|",
         Route::Change(_) => b"Change|",

@@ -6,3 +6,5 @@ pub mod Pieces
 mod SoldLines
 mod Keyings
 mod Once
+mod FreeSeconds
+mod FreeIntervals

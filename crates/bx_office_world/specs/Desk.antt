@@ -2,6 +2,7 @@
 use Rattle.std.specs.Prelude.{◌≡◌, ◌⊎◌, ℕ, List, []}
 use Rattle.bx_office_world.specs.Answers.{IsNoRecords}
 use Rattle.bx_office_world.specs.LastPlans.{IsPlanText, HasNoLastPlan}
+use Rattle.bx_office_world.specs.FreeTimes.{IsFreeAnswered, IsFreeUnanswered}
 use Rattle.bx_office_world.specs.Health.{health_text, ready_now, ready_words}
 use Rattle.bx_office_world.specs.Metrics.{metrics_text}
 use Rattle.bx_office_world.specs.Quotes.{IsCallOfQuery, IsNoCallOfQuery, IsQuoteText, IsNoQuoteText}
@@ -34,6 +35,7 @@ IsWritten opened d figures sight query routes.Plan kind text = (kind ≡ kinds.T
 IsWritten opened d figures sight query routes.Outcomes kind text = (kind ≡ kinds.Text) × (text ≡ outcomes_text d)
 IsWritten opened d figures sight query routes.Records kind text = (kind ≡ kinds.Csv) × IsRecordsText opened.clock d.entries text
 IsWritten opened d figures sight query routes.Quote kind text = (kind ≡ kinds.Text) × IsQuoteAnswered opened query d.entries text
+IsWritten opened d figures sight query routes.Free kind text = (kind ≡ kinds.Csv) × IsFreeAnswered opened d query text
 IsWritten opened d figures sight query routes.Chart kind text = (kind ≡ kinds.Picture) × IsDayChart d opened.channels sight opened.clock text
 IsWritten opened d figures sight query routes.Metrics kind text = (kind ≡ kinds.Metrics) × (text ≡ metrics_text d figures)
 IsWritten opened d figures sight query routes.Health kind text = (kind ≡ kinds.Text) × (text ≡ health_text d figures)
@@ -50,6 +52,7 @@ IsUnanswered opened d query routes.Plan why = HasNoLastPlan d.entries opened.cha
 IsUnanswered opened d query routes.Outcomes why = why ≡ Memory
 IsUnanswered opened d query routes.Records why = IsNoRecords opened.clock why
 IsUnanswered opened d query routes.Quote why = IsQuoteUnanswered opened query d.entries why
+IsUnanswered opened d query routes.Free why = IsFreeUnanswered opened query why
 IsUnanswered opened d query routes.Chart why = why ≡ Memory
 IsUnanswered opened d query routes.Metrics why = why ≡ Memory
 IsUnanswered opened d query routes.Health why = why ≡ Memory

@@ -16,6 +16,9 @@ pub mod Health
 pub mod Statuses
 pub mod Metrics
 pub mod Quotes
+pub mod Wishes
+pub mod FreeStarts
+pub mod FreeTimes
 pub mod Sold
 pub mod Offered
 pub mod Tallies

@@ -45,6 +45,7 @@ use Rattle.bx_planner.specs.declared.answer.NoQuote.TheVariants as quotes
 abbrev pub reply_status_of : NoAnswer → Status
 reply_status_of (no.Book fault) = statuses.BadRequest
 reply_status_of no.NoTimes = statuses.BadRequest
+reply_status_of no.NoLength = statuses.BadRequest
 reply_status_of (no.Quote (quotes.NoChannel moment)) = statuses.Fine
 reply_status_of (no.Quote quotes.TooMany) = statuses.Fine
 reply_status_of _ = statuses.Unavailable

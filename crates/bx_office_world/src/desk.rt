@@ -4,14 +4,17 @@ ghost use Rattle.std.specs.Prelude.{◌≡◌, Ok, Err, IfOk, IfErr};
 ghost use Rattle.bx_day_chart.specs.Charts.{IsDayChart};
 ghost use Rattle.bx_day_chart.specs.Sights.{sight_of};
 ghost use Rattle.bx_office_world.specs.Desk.{IsQuoteAnswered, IsWritten, IsQuoteUnanswered, IsUnanswered};
+ghost use Rattle.bx_office_world.specs.FreeTimes.{IsFreeAnswered, IsFreeUnanswered};
 
 use crate::drawing::chart_text;
 use crate::fault::NoAnswer;
+use crate::free_times::free_text;
 use crate::health::{health_text, ready_now, ready_text};
 use crate::last_plans::plan_text;
 use crate::metrics::{Figures, metrics_text};
 use crate::quoting::{call_of, quote_text};
 use crate::texts::{outcomes_text, records_text};
+use crate::wishing::wish_of;
 use bx_base::ChannelSet;
 use bx_calendar::{Clock, Day};
 use bx_day::Exchange;
@@ -64,6 +67,23 @@ fn quoted(
     }
 }
 
+/// When the call may start that a query wishes for.
+fn freed(
+    alloc: Global,
+    opened: &Opened,
+    exchange: &Exchange,
+    query: &[u8],
+) -> Result<Vec<u8>, NoAnswer>
+    ensures text { IfOk result (λ text. IsFreeAnswered opened.now exchange.now query.now text.items) }
+    ensures none { IfErr result (IsFreeUnanswered opened.now query.now) }
+{
+    let wish = wish_of(alloc, query, &opened.day, opened.last)?;
+    match free_text(alloc, opened, exchange, wish) {
+        Ok(text) => Ok(text),
+        Err(why) => Err(why),
+    }
+}
+
 /// The day so far as a picture.
 fn drawn(
     alloc: Global,
@@ -100,6 +120,7 @@ pub fn answer_of(
         Route::Outcomes => of_kind(Kind::Text, outcomes_text(alloc, exchange)),
         Route::Records => of_kind(Kind::Csv, records_text(alloc, exchange, opened.clock)),
         Route::Quote => of_kind(Kind::Text, quoted(alloc, opened, exchange, query)),
+        Route::Free => of_kind(Kind::Csv, freed(alloc, opened, exchange, query)),
         Route::Chart => of_kind(Kind::Picture, drawn(alloc, opened, exchange, sight)),
         Route::Metrics => of_kind(Kind::Metrics, metrics_text(alloc, exchange, figures)),
         Route::Health => of_kind(Kind::Text, health_text(alloc, exchange, figures)),

@@ -2,9 +2,10 @@
 
 use bx_book::BookFault;
 use bx_planner::NoQuote;
+use std::alloc::AllocError;
 use thiserror::Error;
 
-/// Why there is no answer. Each is printed as the command prints it; `NoTimes`, which no command has, in plain words.
+/// Why there is no answer. Each is printed as the command prints it; `NoTimes` and `NoLength`, which no command has, in plain words.
 #[derive(Clone, Copy, Debug, PartialEq, Eq, Error)]
 pub enum NoAnswer {
     /// A time of the records is outside the range of `jiff`.
@@ -16,6 +17,9 @@ pub enum NoAnswer {
     /// The query of a quote has no start, or no end.
     #[error("no start or no end")]
     NoTimes,
+    /// The query of free times has no length, or one that is none.
+    #[error("no length of 1 to 200000 seconds")]
+    NoLength,
     /// The times of a call are none.
     #[error(transparent)]
     Book(BookFault),
@@ -25,4 +29,15 @@ pub enum NoAnswer {
     /// Memory ran out.
     #[error("Memory")]
     Memory,
+}
+
+impl From<AllocError> for NoAnswer {
+    ghost use Rattle.std.specs.Prelude.{◌≡◌};
+    ghost use Rattle.bx_office_world.specs.declared.fault.NoAnswer.TheVariants.{Memory};
+
+    ghost from_gives = { λ _ fault. fault ≡ Memory };
+
+    fn from(_: AllocError) -> Self {
+        NoAnswer::Memory
+    }
 }

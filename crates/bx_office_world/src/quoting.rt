@@ -18,7 +18,7 @@ use form_urlencoded::{decode, raw_pairs};
 use std::alloc::Global;
 
 /// The value of the first field of a query that has this name, as it stands there.
-fn value_of<'a>(query: &'a [u8], name: &[u8]) -> Option<&'a [u8]>
+pub(crate) fn value_of<'a>(query: &'a [u8], name: &[u8]) -> Option<&'a [u8]>
     ensures { MatchOption result (value_in query.now name.now ≡ None) (λ value. value_in query.now name.now ≡ Some value.now) }
 {
     for (field, value) in raw_pairs(query) {
@@ -30,7 +30,12 @@ fn value_of<'a>(query: &'a [u8], name: &[u8]) -> Option<&'a [u8]>
 }
 
 /// The second of the day that a field of a query names, as a field of row 1 of a text of bookings.
-fn second_of(alloc: Global, query: &[u8], name: &[u8], day: &Day) -> Result<u32, NoAnswer>
+pub(crate) fn second_of(
+    alloc: Global,
+    query: &[u8],
+    name: &[u8],
+    day: &Day,
+) -> Result<u32, NoAnswer>
     ensures second { IfOk result (IsSecondOfQuery query.now name.now (span_of day.now)) }
     ensures none { IfErr result (IsNoSecond query.now name.now (span_of day.now)) }
 {

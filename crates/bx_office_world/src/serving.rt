@@ -83,7 +83,7 @@ fn status_of(why: NoAnswer) -> Status
     ensures { result ≡ reply_status_of why }
 {
     match why {
-        NoAnswer::Book(_) | NoAnswer::NoTimes => Status::BadRequest,
+        NoAnswer::Book(_) | NoAnswer::NoTimes | NoAnswer::NoLength => Status::BadRequest,
         NoAnswer::Quote(NoQuote::NoChannel(_) | NoQuote::TooMany) => Status::Fine,
         _ => Status::Unavailable,
     }

@@ -1,0 +1,54 @@
+-- When a call may start beside all that is promised.
+use Rattle.std.specs.Prelude.{◌≡◌, ◌↔◌, ◌<◌, ◌≤◌, ◌+◌, ℕ, Bool, true, false, List, length, slice_index_or, if◌then◌else◌}
+use Rattle.bx_base.specs.Bookings.{Row, row_at, is_running}
+use Rattle.bx_base.specs.Channels.{count_of}
+use Rattle.bx_base.specs.Sums.{sum_below}
+use Rattle.bx_base.specs.declared.booking.TheConstants.{MAX_MOMENT}
+use Rattle.bx_day.specs.Day.{Day}
+use Rattle.bx_day.specs.declared.entry.Entry.{Entry}
+use Rattle.bx_market.specs.Choices.{promised}
+use Rattle.bx_office_world.specs.declared.desk.Opened.{Opened}
+use Rattle.bx_office_world.specs.declared.wish.Wish.{Wish}
+
+-- ---- what runs
+
+-- how many of the first so many rows run at a second, and how many of all that is promised
+abbrev pub running_below : List Row → ℕ → ℕ → ℕ
+running_below rows n second = sum_below n (λ i. if is_running (row_at rows i) second then 1 else 0)
+
+abbrev pub promised_at : List Entry → ℕ → ℕ
+promised_at entries second = running_below (promised entries) (length (promised entries)) second
+
+-- ---- free starts
+
+-- a start that is wished for comes later, and the day is run to it
+pub record IsWished (moment last : ℕ) (wish : Wish) (start : ℕ) : Type 0 where
+  pub later : moment < start
+  pub from : wish.from ≤ start
+  pub to : start ≤ wish.to
+  pub within : start ≤ last
+
+-- .. and it is free, if at each second of the call fewer of the promised bookings run than there are channels in service
+pub record IsFreeStart (opened : Opened) (d : Day) (wish : Wish) (start : ℕ) : Type 0 where
+  pub wished : IsWished d.moment opened.last wish start
+  pub in_day : start + wish.length ≤ MAX_MOMENT
+  pub free : (second : ℕ) → start ≤ second → second < start + wish.length → promised_at d.entries second < count_of opened.channels
+
+-- ---- as they are found
+
+-- what runs at each second of a day
+pub record AreLoads (entries : List Entry) (counts : List ℕ) : Type 0 where
+  pub size : length counts ≡ MAX_MOMENT
+  pub each : (second : ℕ) → second < MAX_MOMENT → slice_index_or counts second 0 ≡ promised_at entries second
+
+pub record IsStartOn (counts : List ℕ) (limit moment last : ℕ) (wish : Wish) (start : ℕ) : Type 0 where
+  pub wished : IsWished moment last wish start
+  pub in_day : start + wish.length ≤ length counts
+  pub free : (second : ℕ) → start ≤ second → second < start + wish.length → slice_index_or counts second 0 < limit
+
+-- a mark for each second, which says whether this holds of it; beyond the last mark it holds of none
+abbrev pub is_marked_at : List Bool → ℕ → Bool
+is_marked_at marks second = slice_index_or marks second false
+
+abbrev pub AreMarks : List Bool → (ℕ → Type 0) → Type 0
+AreMarks marks P = (second : ℕ) → (is_marked_at marks second ≡ true) ↔ P second
