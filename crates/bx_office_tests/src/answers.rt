@@ -2,7 +2,7 @@
 
 use bx_base::{Booking, Bookings, ChannelSet};
 use bx_book::BookFault;
-use bx_calendar::Day;
+use bx_calendar::{Clock, Day};
 use bx_cases::messages::{
     CONNECT, FAR_DISCONNECT_16, FAR_RELEASE_COMPLETE, FAR_RELEASE_COMPLETE_17,
 };
@@ -10,8 +10,8 @@ use bx_channels::Number;
 use bx_day::Exchange;
 use bx_market::Answer;
 use bx_office_world::{
-    Figures, NoAnswer, call_of, changed_text, metrics_text, outcomes_text, plan_text, quote_text,
-    records_text, sold_text,
+    Figures, NoAnswer, Opened, call_of, changed_text, free_text, metrics_text, outcomes_text,
+    plan_text, quote_text, records_text, sold_text, wish_of,
 };
 use bx_planner::NoQuote;
 use bx_sales::NoSale;
@@ -323,6 +323,198 @@ fn questions_are_answered(rt: HostRuntime) {
     for question in &QUESTIONS {
         assert!(rt; is_answered(rt.alloc(), question), "{}", question.0);
     }
+}
+
+/// A call that is wished for: its name, the query, the channels, whether there is a clock, and when it may start.
+type Wished = (
+    &'static str,
+    &'static str,
+    &'static [u8],
+    bool,
+    Result<&'static str, NoAnswer>,
+);
+
+static WISHES: [Wished; 18] = [
+    (
+        "beside what is promised",
+        "length=10",
+        &[1],
+        false,
+        Ok("from,until\n60,140\n160,600\n"),
+    ),
+    (
+        "by a clock",
+        "length=10",
+        &[1],
+        true,
+        Ok("from,until\n2026-01-05T00:01:00+00:00,2026-01-05T00:02:20+00:00\n2026-01-05T00:02:40+00:00,2026-01-05T00:10:00+00:00\n"),
+    ),
+    (
+        "as long as the time between",
+        "length=90",
+        &[1],
+        false,
+        Ok("from,until\n60,60\n160,600\n"),
+    ),
+    (
+        "a second longer",
+        "length=91",
+        &[1],
+        false,
+        Ok("from,until\n160,600\n"),
+    ),
+    (
+        "of one second",
+        "length=1",
+        &[1],
+        false,
+        Ok("from,until\n60,149\n160,600\n"),
+    ),
+    (
+        "on another channel",
+        "length=10",
+        &[1, 2],
+        false,
+        Ok("from,until\n1,600\n"),
+    ),
+    (
+        "within some time",
+        "length=10&from=2026-01-05T00:01:10Z&to=2026-01-05T00:02:45Z",
+        &[1],
+        false,
+        Ok("from,until\n70,140\n160,165\n"),
+    ),
+    (
+        "before a channel is free",
+        "length=10&to=2026-01-05T00:00:59Z",
+        &[1],
+        false,
+        Ok("from,until\n"),
+    ),
+    (
+        "after the last second to which the day is run",
+        "to=2026-01-05T00:20:00Z&length=10&from=2026-01-05T00:09:59Z",
+        &[1],
+        false,
+        Ok("from,until\n599,600\n"),
+    ),
+    (
+        "up to the last moment of a booking",
+        "length=199400",
+        &[1],
+        false,
+        Ok("from,until\n160,600\n"),
+    ),
+    (
+        "past the last moment of a booking",
+        "length=199500",
+        &[1],
+        false,
+        Ok("from,until\n160,500\n"),
+    ),
+    (
+        "no channel",
+        "length=1",
+        &[],
+        false,
+        Ok("from,until\n"),
+    ),
+    ("no length", "", &[1], false, Err(NoAnswer::NoLength)),
+    (
+        "of no second",
+        "length=0",
+        &[1],
+        false,
+        Err(NoAnswer::NoLength),
+    ),
+    (
+        "longer than a day",
+        "length=200001",
+        &[1],
+        false,
+        Err(NoAnswer::NoLength),
+    ),
+    (
+        "a length that is no number",
+        "length=1m",
+        &[1],
+        false,
+        Err(NoAnswer::NoLength),
+    ),
+    (
+        "from no time",
+        "length=10&from=now",
+        &[1],
+        false,
+        Err(NoAnswer::Book(BookFault::NotATime(1))),
+    ),
+    (
+        "to another day",
+        "length=10&to=2026-01-06T00:00:20Z",
+        &[1],
+        false,
+        Err(NoAnswer::Book(BookFault::OutsideDay(1))),
+    ),
+];
+
+/// What is answered to a query of free times of a day that is run to a second.
+fn freed(
+    alloc: Global,
+    exchange: &Exchange,
+    wished: &Wished,
+    last: u32,
+) -> Option<Result<Vec<u8>, NoAnswer>> {
+    let clock = Clock::new("2026-01-05", "UTC0").ok()?;
+    let opened = Opened {
+        channels: ChannelSet::from_numbers(wished.2).ok()?,
+        day: *clock.day(),
+        last,
+        clock: if wished.3 { Some(clock) } else { None },
+    };
+    let wish = match wish_of(alloc, wished.1.as_bytes(), &opened.day, last) {
+        Ok(wish) => wish,
+        Err(why) => return Some(Err(why)),
+    };
+    Some(free_text(alloc, &opened, exchange, wish))
+}
+
+/// Whether a wish has its answer at the opening of the day.
+fn is_freed(alloc: Global, wished: &Wished) -> bool {
+    let Some(exchange) = exchange_at(alloc, &[], 0) else {
+        return false;
+    };
+    match (freed(alloc, &exchange, wished, 600), wished.4) {
+        (Some(Ok(text)), Ok(expected)) => text.as_slice() == expected.as_bytes(),
+        (Some(Err(why)), Err(expected)) => why == expected,
+        _ => false,
+    }
+}
+
+#[test]
+fn free_times_are_told(rt: HostRuntime) {
+    for wished in &WISHES {
+        assert!(rt; is_freed(rt.alloc(), wished), "{}", wished.0);
+    }
+}
+
+/// What is told of a day on which a hundred and one calls have five seconds between them.
+fn freed_between(alloc: Global) -> Option<Vec<u8>> {
+    let mut rows = Vec::new(alloc);
+    for row in 0..101u32 {
+        rows.push((row * 10, row * 10 + 5, 1u8, false)).ok()?;
+    }
+    let exchange = exchange_of(alloc, &rows)?;
+    let wished: Wished = ("", "length=5", &[1], false, Ok(""));
+    freed(alloc, &exchange, &wished, 2000)?.ok()
+}
+
+#[test]
+fn a_hundred_free_times_are_told(rt: HostRuntime) {
+    let told = freed_between(rt.alloc());
+    let are = told.is_some_and(|text| text.iter().filter(|octet| **octet == b'\n').count() == 101
+        && text.starts_with(b"from,until\n5,5\n15,15\n")
+        && text.ends_with(b"\n985,985\n995,995\n"));
+    assert!(rt; are, "told");
 }
 
 /// A batch: its name, the last second to which the day is run, how many rows the plan had, its bookings, what became of those that were

@@ -18,7 +18,7 @@ const PORT: Place = Place::Port(8080);
 
 const FOUND: Refusal = Refusal::NotFound;
 
-static CASES: [Case; 80] = [
+static CASES: [Case; 82] = [
     (
         "home",
         PORT,
@@ -128,6 +128,26 @@ static CASES: [Case; 80] = [
         "",
         "",
         Ok(Route::Quote),
+    ),
+    (
+        "free times",
+        PORT,
+        "GET",
+        "/free?length=60",
+        "localhost:8080",
+        "",
+        "",
+        Ok(Route::Free),
+    ),
+    (
+        "free times that are posted",
+        PORT,
+        "POST",
+        "/free?length=60",
+        "localhost:8080",
+        "",
+        "",
+        Err(Refusal::WrongMethod(Route::Free)),
     ),
     (
         "an empty query",

@@ -386,6 +386,35 @@ fn one_long_answer_is_given_a_second(rt: HostRuntime) -> Result<(), Fail> {
 }
 
 #[test]
+fn free_times_are_told_to_who_asks(rt: HostRuntime) -> Result<(), Fail> {
+    let alloc = rt.alloc();
+    let (door, port) = opened(&rt, alloc)?;
+    let mut asking = client(&rt, alloc, port, "GET /free?length=60", "\r\n")?;
+    let mut another = client(&rt, alloc, port, "GET /free", "\r\n")?;
+    assert!(rt;
+        ran(alloc, &door, QUIET) == Some((2, 0, 0)),
+        "nothing is sold"
+    );
+    assert!(rt;
+        is_told_so(
+            &mut asking,
+            "HTTP/1.1 200 OK\r\ndate: Thu, 01 Jan 1970 00:00:01 GMT\r\ncontent-type: text/csv; charset=utf-8\r\n",
+            "\r\n\r\nfrom,until\n1,600\n"
+        ),
+        "told"
+    );
+    assert!(rt;
+        is_told_so(
+            &mut another,
+            "HTTP/1.1 400 Bad Request\r\ndate: Thu, 01 Jan 1970 00:00:01 GMT\r\ncontent-type: text/plain",
+            "\r\n\r\nno length of 1 to 200000 seconds\n"
+        ),
+        "no length"
+    );
+    Ok(())
+}
+
+#[test]
 fn a_slow_one_delays_nobody(rt: HostRuntime) -> Result<(), Fail> {
     let alloc = rt.alloc();
     let (door, port) = opened(&rt, alloc)?;
