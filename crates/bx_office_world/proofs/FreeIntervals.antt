@@ -1,10 +1,10 @@
 -- The intervals of marked seconds, one after another.
-use Rattle.std.proofs.Common.{◌≡◌, ◌↔◌, ◌⊎◌, ℕ, ◌+◌, ◌<◌, ◌≤◌, not, Bool, true, false, List, [], ◌∷◌, ◌++◌, length, length-append, Option, refl, sym, subst, ap, ◌∙◌, inl, inr, arith, append_assoc}
+use Rattle.std.proofs.Common.{◌≡◌, ◌↔◌, ◌⊎◌, ℕ, ◌+◌, ◌<◌, ◌≤◌, Bool, true, false, List, [], ◌∷◌, ◌++◌, length, length-append, Option, refl, sym, subst, ap, ◌∙◌, inl, inr, arith, append_assoc}
 use Rattle.std.proofs.lemmas.Bool.{true≢false, cases_lt}
 use Rattle.std.proofs.lemmas.List.{get_or_past, append-nil}
 use Rattle.bx_calendar.specs.declared.clock.Clock.{Clock}
 use Rattle.bx_office_world.specs.FreeStarts.{is_marked_at, AreMarks}
-use Rattle.bx_office_world.specs.FreeTimes.{Interval, IsNextInterval, AreInTurn, AreFirst, IsIntervalLine, AreIntervalLines, AreTold}
+use Rattle.bx_office_world.specs.FreeTimes.{Interval, IsNextInterval, AreInTurn, IsIntervalLine, AreIntervalLines, AreTold}
 
 abbrev pub marked : List Bool → ℕ → Type 0
 marked marks second = is_marked_at marks second ≡ true

@@ -1,13 +1,12 @@
 -- At which seconds a call may start.
-use Rattle.std.proofs.Common.{◌≡◌, ◌≢◌, ◌↔◌, ℕ, zero, suc, ◌+◌, ◌<◌, ◌≤◌, ◌&&◌, Bool, true, false, nat_le, nat_lt, if◌then◌else◌, List, [], ◌∷◌, ◌++◌, length, slice_index_or, slice_set, refl, sym, subst, ap, ◌∙◌, inl, inr, arith}
+use Rattle.std.proofs.Common.{◌≡◌, ◌≢◌, ◌↔◌, ℕ, zero, suc, ◌+◌, ◌<◌, ◌≤◌, ◌&&◌, Bool, true, false, nat_le, nat_lt, if◌then◌else◌, List, [], ◌∷◌, ◌++◌, length, slice_index_or, slice_set, sym, subst, ap, ◌∙◌, inl, inr, arith}
 use Rattle.std.proofs.lemmas.Bool.{true≢false, cases_eq, cases_lt}
 use Rattle.std.proofs.lemmas.Bool.Decides.{nat_tests}
 use Rattle.std.proofs.lemmas.List.{get_or-set_same, get_or-set_other, get_or_past, get_or_push, get_or_append_left}
 use Rattle.bx_base.specs.Bookings.{Row, row_at, is_running}
 use Rattle.bx_base.specs.Channels.{count_of}
-use Rattle.bx_base.specs.declared.booking.TheConstants.{MAX_MOMENT}
 use Rattle.bx_day.specs.Day.{Day}
-use Rattle.bx_office_world.specs.FreeStarts.{running_below, promised_at, IsWished, IsFreeStart, AreLoads, IsStartOn, is_marked_at, AreMarks}
+use Rattle.bx_office_world.specs.FreeStarts.{running_below, IsWished, IsFreeStart, AreLoads, IsStartOn, is_marked_at, AreMarks}
 use Rattle.bx_office_world.specs.declared.desk.Opened.{Opened}
 use Rattle.bx_office_world.specs.declared.wish.Wish.{Wish}
 

@@ -8,3 +8,4 @@ mod Keyings
 mod Once
 mod FreeSeconds
 mod FreeIntervals
+mod Rooms

@@ -19,6 +19,7 @@ pub mod Quotes
 pub mod Wishes
 pub mod FreeStarts
 pub mod FreeTimes
+pub mod FreeLaws
 pub mod Sold
 pub mod Offered
 pub mod Tallies

@@ -1,5 +1,5 @@
 -- What is asked of the free times of a day.
-use Rattle.std.specs.Prelude.{◌≡◌, ◌⊎◌, ◌<◌, ◌≤◌, ◌&&◌, ℕ, nat_le, nat_lt, Bool, false, true, List, length, codes, Option, Some, None}
+use Rattle.std.specs.Prelude.{◌≡◌, ◌⊎◌, ◌&&◌, ℕ, nat_le, nat_lt, Bool, false, true, List, length, codes, Some, None}
 use Rattle.std.specs.List.{list_all}
 use Rattle.std.specs.Char.{is_ascii_digit}
 use Rattle.form_urlencoded.specs.Form as form
