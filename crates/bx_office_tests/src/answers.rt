@@ -347,7 +347,9 @@ static WISHES: [Wished; 18] = [
         "length=10",
         &[1],
         true,
-        Ok("from,until\n2026-01-05T00:01:00+00:00,2026-01-05T00:02:20+00:00\n2026-01-05T00:02:40+00:00,2026-01-05T00:10:00+00:00\n"),
+        Ok(
+            "from,until\n2026-01-05T00:01:00+00:00,2026-01-05T00:02:20+00:00\n2026-01-05T00:02:40+00:00,2026-01-05T00:10:00+00:00\n",
+        ),
     ),
     (
         "as long as the time between",
@@ -412,13 +414,7 @@ static WISHES: [Wished; 18] = [
         false,
         Ok("from,until\n160,500\n"),
     ),
-    (
-        "no channel",
-        "length=1",
-        &[],
-        false,
-        Ok("from,until\n"),
-    ),
+    ("no channel", "length=1", &[], false, Ok("from,until\n")),
     ("no length", "", &[1], false, Err(NoAnswer::NoLength)),
     (
         "of no second",

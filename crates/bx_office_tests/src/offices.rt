@@ -399,7 +399,7 @@ fn free_times_are_told_to_who_asks(rt: HostRuntime) -> Result<(), Fail> {
         is_told_so(
             &mut asking,
             "HTTP/1.1 200 OK\r\ndate: Thu, 01 Jan 1970 00:00:01 GMT\r\ncontent-type: text/csv; charset=utf-8\r\n",
-            "\r\n\r\nfrom,until\n1,600\n"
+            "\r\n\r\nfrom,until\n2,600\n"
         ),
         "told"
     );
