@@ -3,8 +3,8 @@ use Rattle.std.proofs.Common.{◌≡◌, ◌↔◌, ◌⊎◌, ℕ, ◌+◌, ◌
 use Rattle.std.proofs.lemmas.Bool.{true≢false, cases_lt}
 use Rattle.std.proofs.lemmas.List.{get_or_past, append-nil}
 use Rattle.bx_calendar.specs.declared.clock.Clock.{Clock}
-use Rattle.bx_office_world.specs.FreeStarts.{is_marked_at, AreMarks}
-use Rattle.bx_office_world.specs.FreeTimes.{Interval, IsNextInterval, AreInTurn, IsIntervalLine, AreIntervalLines, AreTold}
+use Rattle.bx_office_world.specs.FreeStarts.{is_marked_at, AreStartMarks}
+use Rattle.bx_office_world.specs.FreeTimes.{Interval, IsNextInterval, AreInTurn, IsIntervalLine, AreIntervalLines, AreIntervalsTold}
 
 abbrev pub marked : List Bool → ℕ → Type 0
 marked marks second = is_marked_at marks second ≡ true
@@ -46,7 +46,7 @@ one_more clock P before text next line count rest i s is told e = record {
 -- ---- the end
 
 -- a hundred were told, or none is left
-pub all_told : (clock : Option Clock) (P : ℕ → Type 0) (before text : List ℕ) (count rest : ℕ) → count ≤ 100 → SoFar clock P before text count rest → ((second : ℕ) → rest ≤ second → ¬ P second) → AreTold clock P before text
+pub all_told : (clock : Option Clock) (P : ℕ → Type 0) (before text : List ℕ) (count rest : ℕ) → count ≤ 100 → SoFar clock P before text count rest → ((second : ℕ) → rest ≤ second → ¬ P second) → AreIntervalsTold clock P before text
 all_told clock P before text count rest few s none = record {
   intervals = s.intervals;
   first = record { rest = rest; in_turn = s.in_turn; few = omega (arith, few, s.many); last = inl none };
@@ -55,7 +55,7 @@ all_told clock P before text count rest few s none = record {
   are = s.are;
 }
 
-pub enough_told : (clock : Option Clock) (P : ℕ → Type 0) (before text : List ℕ) (rest : ℕ) → SoFar clock P before text 100 rest → AreTold clock P before text
+pub enough_told : (clock : Option Clock) (P : ℕ → Type 0) (before text : List ℕ) (rest : ℕ) → SoFar clock P before text 100 rest → AreIntervalsTold clock P before text
 enough_told clock P before text rest s = record {
   intervals = s.intervals;
   first = record { rest = rest; in_turn = s.in_turn; few = omega (arith, s.many); last = inr s.many };
@@ -117,7 +117,7 @@ last_to : (P Q : ℕ → Type 0) (rest n : ℕ) → ((k : ℕ) → P k ↔ Q k) 
 last_to P Q rest n to (inl none) = inl (λ k above found. none k above ((to k).1 found))
 last_to P Q rest n to (inr enough) = inr enough
 
-pub told_so : (clock : Option Clock) (marks : List Bool) (Q : ℕ → Type 0) (before text : List ℕ) → AreMarks marks Q → AreTold clock (marked marks) before text → AreTold clock Q before text
+pub told_so : (clock : Option Clock) (marks : List Bool) (Q : ℕ → Type 0) (before text : List ℕ) → AreStartMarks marks Q → AreIntervalsTold clock (marked marks) before text → AreIntervalsTold clock Q before text
 told_so clock marks Q before text to t = record {
   intervals = t.intervals;
   first = record {

@@ -6,7 +6,7 @@ use Rattle.std.proofs.lemmas.List.{get_or-set_same, get_or-set_other, get_or_pas
 use Rattle.bx_base.specs.Bookings.{Row, row_at, is_running}
 use Rattle.bx_base.specs.Channels.{count_of}
 use Rattle.bx_day.specs.Day.{Day}
-use Rattle.bx_office_world.specs.FreeStarts.{running_below, IsWished, IsFreeStart, AreLoads, IsStartOn, is_marked_at, AreMarks}
+use Rattle.bx_office_world.specs.FreeStarts.{running_below, IsWished, IsFreeStart, AreLoads, IsStartOn, is_marked_at, AreStartMarks}
 use Rattle.bx_office_world.specs.declared.desk.Opened.{Opened}
 use Rattle.bx_office_world.specs.declared.wish.Wish.{Wish}
 
@@ -88,7 +88,7 @@ through f g = ((λ a. g.0 (f.0 a)), (λ c. f.1 (g.1 c)))
 
 -- beyond the last mark nothing may start
 pub all_marked : (marks : List Bool) (counts : List ℕ) (limit moment last : ℕ) (wish : Wish) → 1 ≤ wish.length → length marks ≡ length counts
-    → ((k : ℕ) → k < length counts → (is_marked_at marks k ≡ true) ↔ IsStartOn counts limit moment last wish k) → AreMarks marks (IsStartOn counts limit moment last wish)
+    → ((k : ℕ) → k < length counts → (is_marked_at marks k ≡ true) ↔ IsStartOn counts limit moment last wish k) → AreStartMarks marks (IsStartOn counts limit moment last wish)
 all_marked marks counts limit moment last wish lasts size each k = elim (cases_lt k (length counts)) [
   | inl less ↦ each k less
   | inr more ↦ ((λ marked. absurd (true≢false (sym marked ∙ get_or_past marks k false (omega (arith, more, size))))), (λ s. absurd (omega (arith, s.in_day, more, lasts))))
@@ -112,5 +112,5 @@ free_start opened d wish counts loads k = (there, back)
       free = λ t ge lt. subst (λ (n : ℕ). n < count_of opened.channels) (sym (loads.each t (omega (arith, lt, s.in_day)))) (s.free t ge lt);
     }
 
-pub free_marks : (opened : Opened) (d : Day) (wish : Wish) (counts : List ℕ) (marks : List Bool) → AreLoads d.entries counts → AreMarks marks (IsStartOn counts (count_of opened.channels) d.moment opened.last wish) → AreMarks marks (IsFreeStart opened d wish)
+pub free_marks : (opened : Opened) (d : Day) (wish : Wish) (counts : List ℕ) (marks : List Bool) → AreLoads d.entries counts → AreStartMarks marks (IsStartOn counts (count_of opened.channels) d.moment opened.last wish) → AreStartMarks marks (IsFreeStart opened d wish)
 free_marks opened d wish counts marks loads marked k = through (marked k) (free_start opened d wish counts loads k)

@@ -50,5 +50,5 @@ pub record IsStartOn (counts : List ℕ) (limit moment last : ℕ) (wish : Wish)
 abbrev pub is_marked_at : List Bool → ℕ → Bool
 is_marked_at marks second = slice_index_or marks second false
 
-abbrev pub AreMarks : List Bool → (ℕ → Type 0) → Type 0
-AreMarks marks P = (second : ℕ) → (is_marked_at marks second ≡ true) ↔ P second
+abbrev pub AreStartMarks : List Bool → (ℕ → Type 0) → Type 0
+AreStartMarks marks P = (second : ℕ) → (is_marked_at marks second ≡ true) ↔ P second

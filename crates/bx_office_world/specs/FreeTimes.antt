@@ -32,7 +32,7 @@ AreInTurn P begin [] rest = begin ≡ rest
 AreInTurn P begin (i ∷ more) rest = IsNextInterval P begin i × AreInTurn P (i.until + 1) more rest
 
 -- the first hundred of them, or all that there are
-pub record AreFirst (P : ℕ → Type 0) (intervals : List Interval) : Type 0 where
+pub record AreFirstIntervals (P : ℕ → Type 0) (intervals : List Interval) : Type 0 where
   pub rest : ℕ
   pub in_turn : AreInTurn P 0 intervals rest
   pub few : length intervals ≤ 100
@@ -44,20 +44,23 @@ pub record AreFirst (P : ℕ → Type 0) (intervals : List Interval) : Type 0 wh
 abbrev pub IsIntervalLine : Option Clock → Interval → List ℕ → Type 0
 IsIntervalLine clock i line = (from until : List ℕ) × IsTimeText clock i.from from × IsTimeText clock i.until until × (line ≡ from ++ codes "," ++ until ++ codes "\n")
 
+abbrev pub IsLineBetween : Option Clock → ℕ → ℕ → List ℕ → Type 0
+IsLineBetween clock from until line = IsIntervalLine clock (record { from = from; until = until }) line
+
 abbrev pub AreIntervalLines : Option Clock → List Interval → List ℕ → Type 0
 AreIntervalLines clock [] text = text ≡ []
 AreIntervalLines clock (i ∷ more) text = (line rest : List ℕ) × IsIntervalLine clock i line × AreIntervalLines clock more rest × (text ≡ line ++ rest)
 
 -- after what stood before
-pub record AreTold (clock : Option Clock) (P : ℕ → Type 0) (before text : List ℕ) : Type 0 where
+pub record AreIntervalsTold (clock : Option Clock) (P : ℕ → Type 0) (before text : List ℕ) : Type 0 where
   pub intervals : List Interval
-  pub first : AreFirst P intervals
+  pub first : AreFirstIntervals P intervals
   pub lines : List ℕ
   pub told : AreIntervalLines clock intervals lines
   pub are : text ≡ before ++ lines
 
 abbrev pub IsFreeText : Option Clock → (ℕ → Type 0) → List ℕ → Type 0
-IsFreeText clock P text = AreTold clock P (codes "from,until\n") text
+IsFreeText clock P text = AreIntervalsTold clock P (codes "from,until\n") text
 
 -- ---- what is answered
 

@@ -36,11 +36,11 @@ pays_text entries = codes "# TYPE bx_pay gauge\n# HELP bx_pay What these booking
     ++ sample (codes "bx_pay") Refused (pays_of (is_such Refused) entries) ++ sample (codes "bx_pay") Waiting (pays_of (is_such Waiting) entries) ++ sample (codes "bx_pay") Live (pays_of (is_such Live) entries) ++ sample (codes "bx_pay") Carried (pays_of (is_such Carried) entries) ++ sample (codes "bx_pay") Unanswered (pays_of (is_such Unanswered) entries) ++ sample (codes "bx_pay") Missed (pays_of (is_such Missed) entries)
 
 -- how many rows the day has left: so many more may be sold
-abbrev pub rows_head : List ℕ
-rows_head = codes "# TYPE bx_rows_left gauge\n# HELP bx_rows_left Bookings that the last plan has room for.\nbx_rows_left "
+abbrev pub rows_left_head : List ℕ
+rows_left_head = codes "# TYPE bx_rows_left gauge\n# HELP bx_rows_left Bookings that the last plan has room for.\nbx_rows_left "
 
-abbrev pub rows_text : List Entry → List ℕ
-rows_text entries = family_text rows_head (MAX_BOOKINGS - length entries)
+abbrev pub rows_left_text : List Entry → List ℕ
+rows_left_text entries = family_text rows_left_head (MAX_BOOKINGS - length entries)
 
 -- how many channels are in maintenance
 abbrev pub maintenance_head : List ℕ
@@ -81,7 +81,7 @@ moment_head = codes "# TYPE bx_moment_seconds gauge\n# UNIT bx_moment_seconds se
 
 -- what the exchange tells, and what the world has counted
 abbrev pub day_text : Day → List ℕ
-day_text d = family_text moment_head d.moment ++ bookings_text d.entries ++ pays_text d.entries ++ rows_text d.entries ++ maintenance_text d
+day_text d = family_text moment_head d.moment ++ bookings_text d.entries ++ pays_text d.entries ++ rows_left_text d.entries ++ maintenance_text d
 
 abbrev pub figures_text : Figures → List ℕ
 figures_text figures = link_text figures ++ clearings_text figures.clearings ++ office_text figures ++ sync_text figures.since_sync

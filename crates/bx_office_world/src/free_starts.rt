@@ -3,7 +3,7 @@
 ghost use Rattle.std.specs.Prelude.{◌≡◌, ◌↔◌, ◌≤◌, ◌<◌, ◌+◌, ℕ, IsTrue, IfOk, length, slice_index_or, if◌then◌else◌};
 ghost use Rattle.bx_base.specs.Bookings.{is_running};
 ghost use Rattle.bx_base.specs.declared.booking.TheConstants.{MAX_MOMENT};
-ghost use Rattle.bx_office_world.specs.FreeStarts.{running_below, IsWished, IsFreeStart, AreLoads, IsStartOn, AreMarks};
+ghost use Rattle.bx_office_world.specs.FreeStarts.{running_below, IsWished, IsFreeStart, AreLoads, IsStartOn, AreStartMarks};
 
 use crate::desk::Opened;
 use crate::wish::Wish;
@@ -93,7 +93,7 @@ fn starts_on(
     wish: Wish,
 ) -> Result<Vec<bool>, AllocError>
     requires { length counts.now ≡ MAX_MOMENT }
-    ensures marks { IfOk result (λ marks. AreMarks marks.items (IsStartOn counts.now limit moment last wish)) }
+    ensures marks { IfOk result (λ marks. AreStartMarks marks.items (IsStartOn counts.now limit moment last wish)) }
     ensures size { IfOk result (λ marks. length marks.items ≡ length counts.now) }
 {
     let mut marks = Vec::new(alloc);
@@ -113,7 +113,7 @@ pub(crate) fn free_starts(
     exchange: &Exchange,
     wish: Wish,
 ) -> Result<Vec<bool>, AllocError>
-    ensures marks { IfOk result (λ marks. AreMarks marks.items (IsFreeStart opened.now exchange.now wish)) }
+    ensures marks { IfOk result (λ marks. AreStartMarks marks.items (IsFreeStart opened.now exchange.now wish)) }
     ensures size { IfOk result (λ marks. length marks.items ≡ MAX_MOMENT) }
 {
     let counts = loads(alloc, exchange.entries())?;

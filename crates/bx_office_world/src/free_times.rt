@@ -5,7 +5,7 @@ ghost use Rattle.bx_base.specs.declared.booking.TheConstants.{MAX_MOMENT};
 ghost use Rattle.bx_records.specs.Records.{IsTimeText};
 ghost use Rattle.bx_office_world.specs.Answers.{IsNoRecords};
 ghost use Rattle.bx_office_world.specs.FreeStarts.{is_marked_at, IsFreeStart};
-ghost use Rattle.bx_office_world.specs.FreeTimes.{IsIntervalLine, AreTold, IsFreeText};
+ghost use Rattle.bx_office_world.specs.FreeTimes.{IsLineBetween, AreIntervalsTold, IsFreeText};
 
 use crate::desk::Opened;
 use crate::fault::NoAnswer;
@@ -56,7 +56,7 @@ fn push_interval(
     from: u32,
     until: u32,
 ) -> Result<(), NoAnswer>
-    ensures done { OnOk result ((line : List ℕ) × IsIntervalLine clock (record { from = from; until = until }) line × (text.new.items ≡ text.old.items ++ line)) }
+    ensures done { OnOk result ((line : List ℕ) × IsLineBetween clock from until line × (text.new.items ≡ text.old.items ++ line)) }
     ensures none { IfErr result (IsNoRecords clock) }
 {
     push_time(text, clock, from)?;
@@ -68,7 +68,7 @@ fn push_interval(
 /// Appends the lines of the first hundred intervals of marked seconds.
 fn push_intervals(text: &mut Vec<u8>, clock: Option<Clock>, marks: &[bool]) -> Result<(), NoAnswer>
     requires { length marks.now ≡ MAX_MOMENT }
-    ensures done { OnOk result (AreTold clock (λ second. is_marked_at marks.now second ≡ true) text.old.items text.new.items) }
+    ensures done { OnOk result (AreIntervalsTold clock (λ second. is_marked_at marks.now second ≡ true) text.old.items text.new.items) }
     ensures none { IfErr result (IsNoRecords clock) }
 {
     let mut rest = 0usize;

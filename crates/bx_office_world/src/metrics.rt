@@ -4,7 +4,7 @@ ghost use Rattle.std.specs.Prelude.{◌≡◌, ◌++◌, ◌≤◌, length, repl
 ghost use Rattle.bx_base.specs.declared.bookings.TheConstants.{MAX_BOOKINGS};
 ghost use Rattle.bx_records.specs.Totals.{how_many, pays_of};
 ghost use Rattle.bx_office_world.specs.Tallies.{is_such};
-ghost use Rattle.bx_office_world.specs.Metrics.{word_of, sample, family_text, bookings_text, pays_text, rows_text, maintenance_text, link_text, cause_line, clearing_line, clearings_text, office_text, sync_text, day_text, figures_text, metrics_text};
+ghost use Rattle.bx_office_world.specs.Metrics.{word_of, sample, family_text, bookings_text, pays_text, rows_left_text, maintenance_text, link_text, cause_line, clearing_line, clearings_text, office_text, sync_text, day_text, figures_text, metrics_text};
 
 use crate::fault::NoAnswer;
 use crate::maintenance::maintained;
@@ -149,7 +149,7 @@ fn push_pays(text: &mut Vec<u8>, entries: &[Entry]) -> Result<(), AllocError>
 /// Appends how many rows the day has left.
 fn push_rows(text: &mut Vec<u8>, entries: &[Entry]) -> Result<(), AllocError>
     requires { length entries.now ≤ MAX_BOOKINGS }
-    ensures { OnOk result (text.new.items ≡ text.old.items ++ rows_text entries.now) }
+    ensures { OnOk result (text.new.items ≡ text.old.items ++ rows_left_text entries.now) }
 {
     push_family(
         text,
