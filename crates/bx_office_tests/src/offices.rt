@@ -165,13 +165,18 @@ fn ran_after<'a>(
 
 /// Runs a day on channels 1, 2 and 3 with an office at this door.
 fn ran(alloc: Global, door: &Rc<RefCell<Door>>, run: Run) -> Option<Ran> {
+    ran_on(alloc, door, &ROWS, run)
+}
+
+/// The same of a day of these bookings.
+fn ran_on(alloc: Global, door: &Rc<RefCell<Door>>, rows: &[Row], run: Run) -> Option<Ran> {
     let opened = Opened {
         channels: ChannelSet::from_numbers(&[1, 2, 3]).ok()?,
         day: Day::new("2026-01-05", "UTC0").ok()?,
         last: 600,
         clock: None,
     };
-    let exchange = exchange_of(alloc, &ROWS)?;
+    let exchange = exchange_of(alloc, rows)?;
     ran_with(alloc, door, &opened, exchange, run)
 }
 
@@ -351,14 +356,15 @@ fn sixteen_are_told(rt: HostRuntime) -> Result<(), Fail> {
 }
 
 #[test]
-fn one_long_answer_is_given_a_second(rt: HostRuntime) -> Result<(), Fail> {
+fn one_long_answer_is_given_a_second_of_a_full_day(rt: HostRuntime) -> Result<(), Fail> {
     let alloc = rt.alloc();
     let (door, port) = opened(&rt, alloc)?;
+    let rows = vec![in alloc; (100, 200, 0, false); 4_001]?;
     let mut first = client(&rt, alloc, port, "GET /plan", "\r\n")?;
     let mut second = client(&rt, alloc, port, "GET /chart.svg", "\r\n")?;
     let mut third = client(&rt, alloc, port, "GET /outcomes", "\r\n")?;
     assert!(rt;
-        ran(alloc, &door, QUIET) == Some((2, 0, 0)),
+        ran_on(alloc, &door, &rows, QUIET) == Some((4_001, 0, 0)),
         "nothing is sold"
     );
     assert!(rt;

@@ -25,58 +25,58 @@ rest_quick true b e = absurd (true≢false e)
 rest_quick false b e = e
 
 -- after answers none of which takes long comes one of either kind
-long_at_end : (told : List (ℕ × Route)) (turn : ℕ × Route) → has_long told ≡ false → has_long (told ++ turn ∷ []) ≡ is_long turn.1
-long_at_end [] turn e = or_false (is_long turn.1)
+long_at_end : (rows : ℕ) (told : List (ℕ × Route)) (turn : ℕ × Route) → has_long rows told ≡ false → has_long rows (told ++ turn ∷ []) ≡ is_long rows turn.1
+long_at_end rows [] turn e = or_false (is_long rows turn.1)
   where
     or_false : (b : Bool) → (b || false) ≡ b
     or_false true = refl
     or_false false = refl
-long_at_end (x ∷ told) turn e = ap (λ (b : Bool). b || has_long (told ++ turn ∷ [])) (first_quick (is_long x.1) (has_long told) e) ∙ long_at_end told turn (rest_quick (is_long x.1) (has_long told) e)
+long_at_end rows (x ∷ told) turn e = ap (λ (b : Bool). b || has_long rows (told ++ turn ∷ [])) (first_quick (is_long rows x.1) (has_long rows told) e) ∙ long_at_end rows told turn (rest_quick (is_long rows x.1) (has_long rows told) e)
 
 -- .. and it is the last one
-ends_at_long : (told : List (ℕ × Route)) (turn : ℕ × Route) → has_long told ≡ false → EndsAtLong (told ++ turn ∷ [])
-ends_at_long [] turn e = ((λ long. refl), tt)
-ends_at_long (x ∷ told) turn e = ((λ long. absurd (true≢false (sym long ∙ first_quick (is_long x.1) (has_long told) e))), ends_at_long told turn (rest_quick (is_long x.1) (has_long told) e))
+ends_at_long : (rows : ℕ) (told : List (ℕ × Route)) (turn : ℕ × Route) → has_long rows told ≡ false → EndsAtLong rows (told ++ turn ∷ [])
+ends_at_long rows [] turn e = ((λ long. refl), tt)
+ends_at_long rows (x ∷ told) turn e = ((λ long. absurd (true≢false (sym long ∙ first_quick (is_long rows x.1) (has_long rows told) e))), ends_at_long rows told turn (rest_quick (is_long rows x.1) (has_long rows told) e))
 
-quick_ends : (told : List (ℕ × Route)) → has_long told ≡ false → EndsAtLong told
-quick_ends [] e = tt
-quick_ends (x ∷ told) e = ((λ long. absurd (true≢false (sym long ∙ first_quick (is_long x.1) (has_long told) e))), quick_ends told (rest_quick (is_long x.1) (has_long told) e))
+quick_ends : (rows : ℕ) (told : List (ℕ × Route)) → has_long rows told ≡ false → EndsAtLong rows told
+quick_ends rows [] e = tt
+quick_ends rows (x ∷ told) e = ((λ long. absurd (true≢false (sym long ∙ first_quick (is_long rows x.1) (has_long rows told) e))), quick_ends rows told (rest_quick (is_long rows x.1) (has_long rows told) e))
 
 -- so many were answered, none of which took long
 pub record SoFar (desk : Desk) (requests : List Keyed) (d : Day) (count : ℕ) (old new : List Guest) : Type 0 where
   pub told : List (ℕ × Route)
   pub many : length told ≡ count
-  pub quick : has_long told ≡ false
+  pub quick : has_long (length d.entries) told ≡ false
   pub served : AreServed desk requests d told old new
 
 pub none_yet : (desk : Desk) (requests : List Keyed) (d : Day) (gs : List Guest) → SoFar desk requests d 0 gs gs
 none_yet desk requests d gs = record { told = []; many = refl; quick = refl; served = refl }
 
-pub one_more : (desk : Desk) (requests : List Keyed) (d : Day) (count number : ℕ) (route : Route) (old mid new : List Guest) → SoFar desk requests d count old mid → first_asked mid ≡ Some (number, route) → IsTurn desk requests d number route mid new → is_long route ≡ false → SoFar desk requests d (count + 1) old new
+pub one_more : (desk : Desk) (requests : List Keyed) (d : Day) (count number : ℕ) (route : Route) (old mid new : List Guest) → SoFar desk requests d count old mid → first_asked mid ≡ Some (number, route) → IsTurn desk requests d number route mid new → is_long (length d.entries) route ≡ false → SoFar desk requests d (count + 1) old new
 one_more desk requests d count number route old mid new s f t e = record {
   told = s.told ++ (number, route) ∷ [];
   many = length-append s.told ((number, route) ∷ []) ∙ ap (λ (n : ℕ). n + 1) s.many;
-  quick = long_at_end s.told (number, route) s.quick ∙ e;
+  quick = long_at_end (length d.entries) s.told (number, route) s.quick ∙ e;
   served = served_more desk requests d s.told (number, route) old mid new s.served f t;
 }
 
 -- nobody waits any more, enough were answered, or the last answer took long
 pub all_served : (desk : Desk) (requests : List Keyed) (d : Day) (count : ℕ) (old new : List Guest) → count ≤ 16 → SoFar desk requests d count old new → first_asked new ≡ None → IsServing desk requests d old new None
-all_served desk requests d count old new le s e = record { told = s.told; few = omega (arith, s.many); one_long = quick_ends s.told s.quick; served = s.served; next = inl e }
+all_served desk requests d count old new le s e = record { told = s.told; few = omega (arith, s.many); one_long = quick_ends (length d.entries) s.told s.quick; served = s.served; next = inl e }
 
 pub enough_served : (desk : Desk) (requests : List Keyed) (d : Day) (old new : List Guest) → SoFar desk requests d 16 old new → IsServing desk requests d old new None
-enough_served desk requests d old new s = record { told = s.told; few = omega (arith, s.many); one_long = quick_ends s.told s.quick; served = s.served; next = inr (inl s.many) }
+enough_served desk requests d old new s = record { told = s.told; few = omega (arith, s.many); one_long = quick_ends (length d.entries) s.told s.quick; served = s.served; next = inr (inl s.many) }
 
 pub long_served : (desk : Desk) (requests : List Keyed) (d : Day) (count number : ℕ) (route : Route) (old mid new : List Guest) → count < 16 → SoFar desk requests d count old mid → first_asked mid ≡ Some (number, route)
-    → IsTurn desk requests d number route mid new → is_long route ≡ true → IsServing desk requests d old new None
+    → IsTurn desk requests d number route mid new → is_long (length d.entries) route ≡ true → IsServing desk requests d old new None
 long_served desk requests d count number route old mid new le s f t e =
     let many : length (s.told ++ (number, route) ∷ []) ≡ count + 1 = length-append s.told ((number, route) ∷ []) ∙ ap (λ (n : ℕ). n + 1) s.many in
     record {
       told = s.told ++ (number, route) ∷ [];
       few = omega (arith, many);
-      one_long = ends_at_long s.told (number, route) s.quick;
+      one_long = ends_at_long (length d.entries) s.told (number, route) s.quick;
       served = served_more desk requests d s.told (number, route) old mid new s.served f t;
-      next = inr (inr (long_at_end s.told (number, route) s.quick ∙ e));
+      next = inr (inr (long_at_end (length d.entries) s.told (number, route) s.quick ∙ e));
     }
 
 -- what is wanted next
@@ -85,7 +85,7 @@ pub next_wanted : (desk : Desk) (requests : List Keyed) (d : Day) (count : ℕ) 
 next_wanted desk requests d count old mid new number route next le s f (same, taken) = record {
   told = s.told;
   few = omega (arith, s.many);
-  one_long = quick_ends s.told s.quick;
+  one_long = quick_ends (length d.entries) s.told s.quick;
   served = subst (λ (gs : List Guest). AreServed desk requests d s.told old gs) (sym same) s.served;
   next = (s.quick, number, route, ap first_asked same ∙ f, subst (λ (gs : List Guest). IsRequestTaken desk d number route gs next.0 next.1) (sym same) taken);
 }

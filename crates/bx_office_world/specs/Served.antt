@@ -1,5 +1,5 @@
 -- Private: who waits at the door is answered, each in its turn.
-use Rattle.std.specs.Prelude.{◌≡◌, ◌⊎◌, ℕ, ◌≤◌, ◌||◌, Bool, true, false, List, [], ◌∷◌, length, Option, Some, None}
+use Rattle.std.specs.Prelude.{◌≡◌, ◌⊎◌, ℕ, ◌≤◌, nat_lt, ◌||◌, Bool, true, false, List, [], ◌∷◌, length, Option, Some, None}
 use Rattle.bx_day.specs.Day.{Day}
 use Rattle.bx_market.specs.declared.market.Request.{Request}
 use Rattle.bx_market.specs.declared.market.Request.TheVariants as requests
@@ -36,21 +36,21 @@ IsTurnTaken desk requests d number route old new (Some next) = (new ≡ old) × 
 
 -- ---- all who wait
 
--- what may cost a tenth of a second of the processor on a full day: a best plan is made for it, or the whole day is drawn
-abbrev pub is_long : Route → Bool
-is_long routes.Plan = true
-is_long routes.Quote = true
-is_long routes.Chart = true
-is_long _ = false
+-- what may cost a tenth of a second of the processor on a day of so many rows: a best plan is made for it, or the whole day is drawn
+abbrev pub is_long : ℕ → Route → Bool
+is_long rows routes.Plan = nat_lt 4_000 rows
+is_long rows routes.Quote = nat_lt 4_000 rows
+is_long rows routes.Chart = nat_lt 4_000 rows
+is_long rows _ = false
 
-abbrev pub has_long : List (ℕ × Route) → Bool
-has_long [] = false
-has_long (turn ∷ more) = is_long turn.1 || has_long more
+abbrev pub has_long : ℕ → List (ℕ × Route) → Bool
+has_long rows [] = false
+has_long rows (turn ∷ more) = is_long rows turn.1 || has_long rows more
 
 -- nobody stands after one whose answer takes long
-abbrev pub EndsAtLong : List (ℕ × Route) → Type 0
-EndsAtLong [] = Unit {0}
-EndsAtLong (turn ∷ more) = (is_long turn.1 ≡ true → more ≡ []) × EndsAtLong more
+abbrev pub EndsAtLong : ℕ → List (ℕ × Route) → Type 0
+EndsAtLong rows [] = Unit {0}
+EndsAtLong rows (turn ∷ more) = (is_long rows turn.1 ≡ true → more ≡ []) × EndsAtLong rows more
 
 -- these were answered, each as the first whose request waited then, and nobody else
 abbrev pub AreServed : Desk → List Keyed → Day → List (ℕ × Route) → List Guest → List Guest → Type 0
@@ -60,12 +60,12 @@ AreServed desk requests d (turn ∷ more) old new =
 
 -- what is wanted next is what the first asks for who waits then; nothing is, where nobody waits, enough were answered, or an answer took long
 abbrev pub IsNextAsked : Desk → Day → List (ℕ × Route) → List Guest → Option (Pending × Request) → Type 0
-IsNextAsked desk d told new None = (first_asked new ≡ None) ⊎ ((length told ≡ 16) ⊎ (has_long told ≡ true))
-IsNextAsked desk d told new (Some next) = (has_long told ≡ false) × (number : ℕ) × (route : Route) × (first_asked new ≡ Some (number, route)) × IsRequestTaken desk d number route new next.0 next.1
+IsNextAsked desk d told new None = (first_asked new ≡ None) ⊎ ((length told ≡ 16) ⊎ (has_long (length d.entries) told ≡ true))
+IsNextAsked desk d told new (Some next) = (has_long (length d.entries) told ≡ false) × (number : ℕ) × (route : Route) × (first_asked new ≡ Some (number, route)) × IsRequestTaken desk d number route new next.0 next.1
 
 pub record IsServing (desk : Desk) (requests : List Keyed) (d : Day) (old new : List Guest) (result : Option (Pending × Request)) : Type 0 where
   pub told : List (ℕ × Route)
   pub few : length told ≤ 16
-  pub one_long : EndsAtLong told
+  pub one_long : EndsAtLong (length d.entries) told
   pub served : AreServed desk requests d told old new
   pub next : IsNextAsked desk d told new result

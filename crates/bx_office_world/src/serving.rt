@@ -34,6 +34,9 @@ use std::fmt::Display;
 /// The most requests that are answered at a time.
 const MAX_ANSWERS: u32 = 16;
 
+/// The most rows of a day whose best plan, or whose picture, takes a small part of a second.
+const FEW_ROWS: usize = 4_000;
+
 /// A batch that is being sold: whose it is, whether it is under a key, how many rows the plan has, and all that is wanted, also what is not
 /// offered.
 #[derive(Drop)]
@@ -136,12 +139,12 @@ fn tag_of_client(door: &Door, number: u64) -> Option<Tag>
     Some(tag_for(key.octets(), client.body()))
 }
 
-/// Whether an answer may cost a tenth of a second of the processor on a full day.
-fn is_long(route: Route) -> bool
-    ensures { result ≡ is_long route }
+/// Whether an answer may cost a tenth of a second of the processor on a day of so many rows.
+fn is_long(rows: usize, route: Route) -> bool
+    ensures { result ≡ is_long rows route }
 {
     match route {
-        Route::Plan | Route::Quote | Route::Chart => true,
+        Route::Plan | Route::Quote | Route::Chart => rows > FEW_ROWS,
         _ => false,
     }
 }
@@ -335,7 +338,8 @@ impl Desk<'_> {
     }
 
     /// Answers who waits, each in its turn, up to the first that asks for a sale or a change, or up to so many: whose it is, and what is wanted.
-    /// Who has hung up by then is sent away, and nothing is sold or changed for it. An answer that takes long (`is_long`) is the last: nothing
+    /// Who has hung up by then is sent away, and nothing is sold or changed for it. On a day of more than 4,000 rows an answer that takes
+    /// long (`is_long`) is the last: nothing
     /// is wanted then, so that the market does not ask again before the next second, which several of them would make late.
     pub(crate) fn serve(
         &self,
@@ -347,12 +351,13 @@ impl Desk<'_> {
         ensures served { IsServing self.now ledger.old.requests.items exchange.now (guests_of door.old) (guests_of door.new) result }
         ensures keys { IsKeyTaken (known_keys ledger.old) result (known_keys ledger.new) }
     {
+        let rows = exchange.entries().len();
         for _answer in 0..MAX_ANSWERS {
             let (number, route) = door.asked()?;
             if let Some(next) = self.next(alloc, door, ledger, exchange, number, route) {
                 return Some(next);
             }
-            if is_long(route) {
+            if is_long(rows, route) {
                 return None;
             }
         }

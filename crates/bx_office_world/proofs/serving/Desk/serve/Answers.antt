@@ -1,4 +1,4 @@
-use Rattle.std.proofs.Common.{◌≡◌, ◌<◌, ◌≤◌, rules, true, false, ◌∙◌, subst, List, Some, None}
+use Rattle.std.proofs.Common.{◌≡◌, ◌<◌, ◌≤◌, rules, true, false, ◌∙◌, subst, List, length, Some, None}
 use Rattle.bx_office_door.specs.Guests.{first_asked}
 use Rattle.bx_office_world.specs.declared.ledger.Keyed.{Keyed}
 use Rattle.bx_office_world.specs.Served.{is_long, IsTurnTaken}
@@ -16,7 +16,7 @@ loop-answer-preserved c =
     let route = c.in_ok-number.route in
     let asked : first_asked c.loop-answer.door.guests.items ≡ Some (c.in_ok-number.number, c.in_ok-number.route) = search rules in
     let taken = subst (λ (rs : List Keyed). IsTurnTaken desk rs d number route old new c.next.result) c.loop-answer.invariant.still c.next.ensures.turn in
-    let quick : is_long route ≡ false = search rules in
+    let quick : is_long (length d.entries) route ≡ false = search rules in
     record {
       served = one_more desk requests d c.loop-answer._answer number route c.args.door.now.guests.items old new c.loop-answer.invariant.served asked (not_taken desk requests d number route old new c.next.result c.in_default.is taken) quick;
       still = c.next.ensures.still c.in_default.is ∙ c.loop-answer.invariant.still;
@@ -47,7 +47,7 @@ returns-then-is_long-clause-served c =
     let new = c.next.new.door.guests.items in
     let asked : first_asked mid ≡ Some (number, route) = search rules in
     let few : c.loop-answer._answer < 16 = search rules in
-    let long : is_long route ≡ true = search rules in
+    let long : is_long (length d.entries) route ≡ true = search rules in
     let taken = subst (λ (rs : List Keyed). IsTurnTaken desk rs d number route mid new c.next.result) c.loop-answer.invariant.still c.next.ensures.turn in
     long_served desk c.args.ledger.now.requests.items d c.loop-answer._answer number route c.args.door.now.guests.items mid new few c.loop-answer.invariant.served asked
     (not_taken desk c.args.ledger.now.requests.items d number route mid new c.next.result c.in_default.is taken) long
