@@ -47,6 +47,7 @@ complete -c bx -n '__fish_seen_subcommand_from serve' -l journal -r -d 'Log each
 complete -c bx -n '__fish_seen_subcommand_from serve' -l office -r -d 'The path of a Unix socket for a booking office over HTTP'
 complete -c bx -n '__fish_seen_subcommand_from serve' -l office-port -x -d 'The TCP port on 127.0.0.1 for it, in place of a socket'
 complete -c bx -n '__fish_seen_subcommand_from serve' -l origin -x -d 'The origin of a proxy in front of it, as https://office.example'
+complete -c bx -n '__fish_seen_subcommand_from serve' -l rate -x -d 'The least pay of each started minute of a call that it sells, 1 to 1000000'
 complete -c bx -n '__fish_seen_subcommand_from serve' -l pace -x -d 'Seconds of a live day in one of the clock, 1 to 1000'
 complete -c bx -n '__fish_seen_subcommand_from serve' -l turns -x -d 'Seconds of the day to run, 1 to 300000'
 complete -c bx -n '__fish_seen_subcommand_from serve' -l records -r -d 'When the day has ended write its records into this file, as CSV for bills and spreadsheets'

@@ -166,6 +166,8 @@ pub struct LiveRequest<'a> {
     pub office: Option<Place<'a>>,
     /// The origin by which a proxy in front of the office is asked, as `https://office.example`, where there is one.
     pub origin: Option<&'a str>,
+    /// The least pay of each started minute of what the office sells, 1 to 1,000,000, where there is one.
+    pub rate: Option<u32>,
     pub turns: Option<u32>,
     pub is_quiet: bool,
 }

@@ -64,6 +64,7 @@ pub enum Argument {
     Office,
     OfficePort,
     Origin,
+    Rate,
     Records,
     Capture,
     Octets,
@@ -92,6 +93,8 @@ enum Form {
     Seconds,
     /// An option for how many seconds of a day go by in one of the clock, 1 to 1,000.
     Pace,
+    /// An option for what a started minute has to pay, 1 to 1,000,000.
+    Rate,
     /// An option for a port.
     Port,
 }
@@ -142,6 +145,9 @@ const OFFICE_PORT: &str = "The TCP port on 127.0.0.1 for it, in place of a socke
 const ORIGIN: &str =
     "The origin of a proxy in front of it, as https://office.example: who asks by its host is answered too, and its page";
 
+const RATE: &str =
+    "The least pay of each started minute of a call that it sells, 1 to 1000000 [default: none]";
+
 const RECORDS: &str =
     "When the day has ended write its records into this file, as CSV for bills and spreadsheets";
 
@@ -184,6 +190,7 @@ fn name_of<'a>(argument: Argument) -> &'a str {
         Argument::Office => "office",
         Argument::OfficePort => "office-port",
         Argument::Origin => "origin",
+        Argument::Rate => "rate",
         Argument::Records => "records",
         Argument::Capture => "capture",
         Argument::Octets => "octets",
@@ -206,7 +213,11 @@ fn value_of<'a>(argument: Argument) -> &'a str {
         Argument::Journal(Journal::File | Journal::Read) => "JOURNAL",
         Argument::Journal(_) | Argument::Records | Argument::Capture => "FILE",
         Argument::Script => "SCRIPT",
-        Argument::Turns | Argument::FarTurns | Argument::Pace | Argument::FarPace => "N",
+        Argument::Turns
+        | Argument::FarTurns
+        | Argument::Pace
+        | Argument::FarPace
+        | Argument::Rate => "N",
         Argument::Port | Argument::OfficePort => "P",
         Argument::Socket | Argument::Office => "PATH",
         Argument::Origin => "ORIGIN",
@@ -234,6 +245,7 @@ fn form_of(argument: Argument) -> Form {
         Argument::Live | Argument::Inward | Argument::Quiet | Argument::NoTotals => Form::Flag,
         Argument::Turns | Argument::FarTurns => Form::Seconds,
         Argument::Pace | Argument::FarPace => Form::Pace,
+        Argument::Rate => Form::Rate,
         Argument::Port | Argument::OfficePort => Form::Port,
         _ => Form::Optional,
     }
@@ -295,6 +307,7 @@ fn help_of<'a>(argument: Argument) -> &'a str {
         Argument::Office => OFFICE,
         Argument::OfficePort => OFFICE_PORT,
         Argument::Origin => ORIGIN,
+        Argument::Rate => RATE,
         Argument::Records => RECORDS,
         Argument::Capture => CAPTURE,
         Argument::Octets => OCTETS,
@@ -316,7 +329,9 @@ fn needs_of(argument: Argument) -> &'static [&'static str] {
         Argument::FarLine => &["date"],
         Argument::Live | Argument::FarPace | Argument::FarTurns => &["line"],
         Argument::Pace => &["live"],
-        Argument::Office | Argument::OfficePort | Argument::Origin => &["live", "journal"],
+        Argument::Office | Argument::OfficePort | Argument::Origin | Argument::Rate => &[
+            "live", "journal",
+        ],
         _ => &[],
     }
 }
@@ -356,6 +371,7 @@ fn parser_of(form: Form) -> ValueParser<'static> {
         Form::Port => value_parser!(u16).range(1..).into(),
         Form::Seconds => value_parser!(u32).range(1..=i64::from(LAST_MOMENT)).into(),
         Form::Pace => value_parser!(u32).range(1..=1_000).into(),
+        Form::Rate => value_parser!(u32).range(1..=1_000_000).into(),
         _ => ValueParser::String,
     }
 }

@@ -182,6 +182,7 @@ static COMMANDS: [Words; 14] = [
             Argument::Office,
             Argument::OfficePort,
             Argument::Origin,
+            Argument::Rate,
             Argument::Pace,
             Argument::Turns,
             Argument::Records,

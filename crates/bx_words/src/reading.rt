@@ -284,6 +284,13 @@ fn live_request<'a>(alloc: Global, matches: &ArgMatches<'a>) -> Result<Request<'
             "'--origin <ORIGIN>' stands only beside '--office <PATH>' or '--office-port <P>'",
         ));
     }
+    let rate = matches.get_one::<u32>("rate");
+    if office.is_none() && rate.is_some() {
+        return Err(wrong(
+            alloc,
+            "'--rate <N>' stands only beside '--office <PATH>' or '--office-port <P>'",
+        ));
+    }
     Ok(Request::Live(LiveRequest {
         plan: word(matches, "plan"),
         line,
@@ -291,6 +298,7 @@ fn live_request<'a>(alloc: Global, matches: &ArgMatches<'a>) -> Result<Request<'
         journal: matches.get_str("journal"),
         office,
         origin,
+        rate,
         turns: matches.get_one::<u32>("turns"),
         is_quiet: matches.get_flag("quiet"),
     }))
