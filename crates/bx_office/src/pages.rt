@@ -93,6 +93,7 @@ const reasons = {
   OtherChannels: \"this day's plan does not let calls be added\",
   Memory: \"the office has no memory left\",
   AfterTheDay: \"it begins after the day that runs\",
+  BelowRate: \"it pays less than the office asks for so long a call\",
 };
 const inWords = (text) => faults[text.split(\" \")[0].trim()] || text.trim();
 const ask = async (path, options) => {
