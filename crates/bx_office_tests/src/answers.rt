@@ -10,8 +10,8 @@ use bx_channels::Number;
 use bx_day::Exchange;
 use bx_market::Answer;
 use bx_office_world::{
-    Figures, NoAnswer, Opened, call_of, changed_text, free_text, metrics_text, outcomes_text,
-    plan_text, quote_text, records_text, sold_text, wish_of,
+    Figures, NoAnswer, Opened, Terms, call_of, changed_text, free_text, metrics_text,
+    outcomes_text, plan_text, quote_text, records_text, sold_text, wish_of,
 };
 use bx_planner::NoQuote;
 use bx_sales::NoSale;
@@ -297,8 +297,49 @@ static QUESTIONS: [Question; 9] = [
     ),
 ];
 
-/// What is answered to a query at the opening of the day.
-fn quoted(alloc: Global, query: &str, numbers: &[u8]) -> Option<Result<Vec<u8>, NoAnswer>> {
+/// A question at a rate of each started minute: its name, the query, the rate, and the answer.
+type RatedQuestion = (&'static str, &'static str, u32, &'static str);
+
+static RATED_QUESTIONS: [RatedQuestion; 5] = [
+    (
+        "one minute",
+        "start=2026-01-05T00:00:10Z&end=2026-01-05T00:01:10Z",
+        7,
+        "its seconds cost 0\ntaken above 6\ninstead of none\nbesides none\n",
+    ),
+    (
+        "a second more",
+        "start=2026-01-05T00:00:10Z&end=2026-01-05T00:01:11Z",
+        7,
+        "its seconds cost 0\ntaken above 13\ninstead of none\nbesides none\n",
+    ),
+    (
+        "one second",
+        "start=2026-01-05T00:00:10Z&end=2026-01-05T00:00:11Z",
+        1_000_000,
+        "its seconds cost 0\ntaken above 999999\ninstead of none\nbesides none\n",
+    ),
+    (
+        "the least rate of one minute",
+        "start=2026-01-05T00:00:10Z&end=2026-01-05T00:01:10Z",
+        1,
+        FREE,
+    ),
+    (
+        "the whole day",
+        "start=2026-01-05T00:00:00Z&end=2026-01-06T00:00:00Z",
+        1_000_000,
+        "its seconds cost 0\ntaken above 1439999999\ninstead of none\nbesides none\n",
+    ),
+];
+
+/// What is answered to a query at the opening of the day, at a rate.
+fn quoted(
+    alloc: Global,
+    query: &str,
+    numbers: &[u8],
+    rate: u32,
+) -> Option<Result<Vec<u8>, NoAnswer>> {
     let exchange = exchange_at(alloc, &[], 0)?;
     let channels = ChannelSet::from_numbers(numbers).ok()?;
     let day = Day::new("2026-01-05", "UTC0").ok()?;
@@ -306,12 +347,12 @@ fn quoted(alloc: Global, query: &str, numbers: &[u8]) -> Option<Result<Vec<u8>, 
         Ok(call) => call,
         Err(why) => return Some(Err(why)),
     };
-    Some(quote_text(alloc, &exchange, channels, &call))
+    Some(quote_text(alloc, &exchange, channels, rate, &call))
 }
 
 /// Whether a question has its answer.
 fn is_answered(alloc: Global, question: &Question) -> bool {
-    match (quoted(alloc, question.1, question.2), question.3) {
+    match (quoted(alloc, question.1, question.2, 0), question.3) {
         (Some(Ok(text)), Ok(expected)) => text.as_slice() == expected.as_bytes(),
         (Some(Err(why)), Err(expected)) => why == expected,
         _ => false,
@@ -322,6 +363,21 @@ fn is_answered(alloc: Global, question: &Question) -> bool {
 fn questions_are_answered(rt: HostRuntime) {
     for question in &QUESTIONS {
         assert!(rt; is_answered(rt.alloc(), question), "{}", question.0);
+    }
+}
+
+/// Whether a question at a rate has its answer.
+fn is_rated(alloc: Global, question: &RatedQuestion) -> bool {
+    match quoted(alloc, question.1, &[1, 2, 3], question.2) {
+        Some(Ok(text)) => text.as_slice() == question.3.as_bytes(),
+        _ => false,
+    }
+}
+
+#[test]
+fn quotes_know_the_rate(rt: HostRuntime) {
+    for question in &RATED_QUESTIONS {
+        assert!(rt; is_rated(rt.alloc(), question), "{}", question.0);
     }
 }
 
@@ -465,6 +521,7 @@ fn freed(
         channels: ChannelSet::from_numbers(wished.2).ok()?,
         day: *clock.day(),
         last,
+        rate: 0,
         clock: if wished.3 { Some(clock) } else { None },
     };
     let wish = match wish_of(alloc, wished.1.as_bytes(), &opened.day, last) {
@@ -513,21 +570,23 @@ fn a_hundred_free_times_are_told(rt: HostRuntime) {
     assert!(rt; are, "told");
 }
 
-/// A batch: its name, the last second to which the day is run, how many rows the plan had, its bookings, what became of those that were
-/// offered, and what the customer is told.
+/// A batch: its name, the last second to which the day is run, the rate of each started minute, how many rows the plan had, its bookings, which
+/// pay 5 each, what became of those that were offered, and what the customer is told.
 struct Batch {
     name: &'static str,
     last: u32,
+    rate: u32,
     rows: u16,
     wanted: &'static [(u32, u32)],
     answers: &'static [Answer],
     told: &'static str,
 }
 
-static BATCHES: [Batch; 8] = [
+static BATCHES: [Batch; 11] = [
     Batch {
         name: "none",
         last: 86438,
+        rate: 0,
         rows: 3,
         wanted: &[],
         answers: &[],
@@ -536,6 +595,7 @@ static BATCHES: [Batch; 8] = [
     Batch {
         name: "one",
         last: 86438,
+        rate: 0,
         rows: 0,
         wanted: &[(100, 160)],
         answers: &[Answer::Accepted],
@@ -544,6 +604,7 @@ static BATCHES: [Batch; 8] = [
     Batch {
         name: "the last row of a plan",
         last: 86438,
+        rate: 0,
         rows: 15999,
         wanted: &[(100, 160), (100, 160)],
         answers: &[Answer::Accepted, Answer::Refused(NoSale::Full)],
@@ -552,6 +613,7 @@ static BATCHES: [Batch; 8] = [
     Batch {
         name: "some",
         last: 86438,
+        rate: 0,
         rows: 3,
         wanted: &[
             (1, 160),
@@ -574,6 +636,7 @@ static BATCHES: [Batch; 8] = [
     Batch {
         name: "of one, two and three seconds",
         last: 86438,
+        rate: 0,
         rows: 3,
         wanted: &[(100, 101), (110, 112), (120, 123), (130, 131)],
         answers: &[
@@ -587,6 +650,7 @@ static BATCHES: [Batch; 8] = [
     Batch {
         name: "in the last second, and after it",
         last: 600,
+        rate: 0,
         rows: 3,
         wanted: &[(601, 700), (600, 700), (602, 603), (599, 700)],
         answers: &[Answer::Accepted, Answer::Refused(NoSale::NoChannel)],
@@ -595,14 +659,54 @@ static BATCHES: [Batch; 8] = [
     Batch {
         name: "none within the day",
         last: 600,
+        rate: 0,
         rows: 3,
         wanted: &[(601, 700)],
         answers: &[],
         told: "row,answer,plan row,reason\n1,refused,,AfterTheDay\n",
     },
     Batch {
+        name: "at the rate, below it and after the day",
+        last: 600,
+        rate: 2,
+        rows: 3,
+        wanted: &[
+            (100, 220),
+            (100, 221),
+            (601, 700),
+            (601, 900),
+            (100, 160),
+            (300, 301),
+        ],
+        answers: &[
+            Answer::Accepted,
+            Answer::Refused(NoSale::NoChannel),
+            Answer::Accepted,
+        ],
+        told: "row,answer,plan row,reason\n1,accepted,4,\n2,refused,,BelowRate\n3,refused,,AfterTheDay\n4,refused,,AfterTheDay\n5,refused,,NoChannel\n6,accepted,5,TooShort\n",
+    },
+    Batch {
+        name: "just the rate of one minute, and a second more",
+        last: 86438,
+        rate: 5,
+        rows: 0,
+        wanted: &[(100, 160), (100, 161)],
+        answers: &[Answer::Accepted],
+        told: "row,answer,plan row,reason\n1,accepted,1,\n2,refused,,BelowRate\n",
+    },
+    Batch {
+        name: "none at the rate",
+        last: 86438,
+        rate: 1_000_000,
+        rows: 0,
+        wanted: &[(100, 101)],
+        answers: &[],
+        told: "row,answer,plan row,reason\n1,refused,,BelowRate\n",
+    },
+    Batch {
         name: "one without an answer",
         last: 86438,
+        rate: 0,
         rows: 3,
         wanted: &[(100, 160), (170, 180)],
         answers: &[Answer::Accepted],
@@ -623,7 +727,11 @@ fn wanted_of(alloc: Global, seconds: &[(u32, u32)]) -> Option<Bookings> {
 /// What a customer is told of a batch.
 fn told_of(alloc: Global, batch: &Batch) -> Option<Vec<u8>> {
     let wanted = wanted_of(alloc, batch.wanted)?;
-    sold_text(alloc, batch.last, batch.rows, &wanted, batch.answers).ok()
+    let terms = Terms {
+        last: batch.last,
+        rate: batch.rate,
+    };
+    sold_text(alloc, terms, batch.rows, &wanted, batch.answers).ok()
 }
 
 /// Whether a customer is told this.

@@ -15,4 +15,6 @@ mod offices;
 #[cfg(test)]
 mod quiet_world;
 #[cfg(test)]
+mod rates;
+#[cfg(test)]
 mod wires;

@@ -21,10 +21,10 @@ use std::test::Fail;
 use std::time::Duration;
 
 /// One booking is promised on each of the channels 1 and 2.
-static ROWS: [Row; 2] = [(100, 200, 1, false), (100, 200, 2, false)];
+pub(crate) static ROWS: [Row; 2] = [(100, 200, 1, false), (100, 200, 2, false)];
 
 /// A door at a port that the system has chosen, and the port.
-fn opened<H: Net<Listener = TcpListener, Stream = TcpStream>>(
+pub(crate) fn opened<H: Net<Listener = TcpListener, Stream = TcpStream>>(
     rt: &H,
     alloc: Global,
 ) -> io::Result<(Rc<RefCell<Door>>, u16)> {
@@ -39,7 +39,7 @@ fn opened<H: Net<Listener = TcpListener, Stream = TcpStream>>(
 }
 
 /// A client that has sent a head with this line, these fields and this body.
-fn client<H: Net<Listener = TcpListener, Stream = TcpStream>>(
+pub(crate) fn client<H: Net<Listener = TcpListener, Stream = TcpStream>>(
     rt: &H,
     alloc: Global,
     port: u16,
@@ -54,7 +54,7 @@ fn client<H: Net<Listener = TcpListener, Stream = TcpStream>>(
 }
 
 /// Whether a client gets an answer that begins and ends so.
-fn is_told_so(stream: &mut TcpStream, prefix: &str, back: &str) -> bool {
+pub(crate) fn is_told_so(stream: &mut TcpStream, prefix: &str, back: &str) -> bool {
     let mut room = [0u8; 4096];
     match stream.read(&mut room) {
         Ok(count) if count <= 4096 => {
@@ -102,7 +102,7 @@ fn is_sent_away(stream: &mut TcpStream) -> bool {
 
 /// How a day goes: for some seconds, each of which lasts so many for the clients, how they begin, and whether a call is cleared once by the far end.
 #[derive(Clone, Copy)]
-struct Run {
+pub(crate) struct Run {
     seconds: u32,
     pace: u32,
     begin: Begin,
@@ -110,7 +110,7 @@ struct Run {
 }
 
 /// Four seconds without a link.
-const QUIET: Run = Run {
+pub(crate) const QUIET: Run = Run {
     seconds: 4,
     pace: 1,
     begin: Begin::Alone,
@@ -118,10 +118,10 @@ const QUIET: Run = Run {
 };
 
 /// What has become of a run: how many bookings the day has, and how many were sold in the journal and on the disk.
-type Ran = (usize, u32, u32);
+pub(crate) type Ran = (usize, u32, u32);
 
 /// Runs a day with an office at this door, which was opened with this.
-fn ran_with<'a>(
+pub(crate) fn ran_with<'a>(
     alloc: Global,
     door: &'a Rc<RefCell<Door>>,
     opened: &'a Opened,
@@ -132,7 +132,7 @@ fn ran_with<'a>(
 }
 
 /// The same, where the last bookings of the day were sold before, under these keys.
-fn ran_after<'a>(
+pub(crate) fn ran_after<'a>(
     alloc: Global,
     door: &'a Rc<RefCell<Door>>,
     opened: &'a Opened,
@@ -174,6 +174,7 @@ fn ran_on(alloc: Global, door: &Rc<RefCell<Door>>, rows: &[Row], run: Run) -> Op
         channels: ChannelSet::from_numbers(&[1, 2, 3]).ok()?,
         day: Day::new("2026-01-05", "UTC0").ok()?,
         last: 600,
+        rate: 0,
         clock: None,
     };
     let exchange = exchange_of(alloc, rows)?;
@@ -207,7 +208,7 @@ fn a_customer_is_sold_to_and_told(rt: HostRuntime) -> Result<(), Fail> {
 }
 
 /// The same batch under a key, in quotes and without, another one under it, and the same under another key.
-const KEYED: &str =
+pub(crate) const KEYED: &str =
     "Idempotency-Key: \"a-1\"\r\nContent-Type: text/csv\r\nContent-Length: 168\r\n\r\nstart,end,number,pay\n2026-01-05T00:01:40Z,2026-01-05T00:02:00Z,1234,9\n2026-01-05T00:01:40Z,2026-01-05T00:02:00Z,1234,5\n2026-01-05T00:10:00Z,2026-01-05T00:11:00Z,1234,5\n";
 
 const KEYED_AGAIN: &str =
@@ -238,7 +239,7 @@ fn under_a_key_it_is_sold_once(rt: HostRuntime) -> Result<(), Fail> {
 }
 
 /// The second and the third booking of the batch, as a day has them on which they were sold before.
-static SOLD_BEFORE: [Row; 4] = [
+pub(crate) static SOLD_BEFORE: [Row; 4] = [
     (100, 200, 1, false),
     (100, 200, 2, false),
     (100, 120, 3, false),
@@ -246,13 +247,13 @@ static SOLD_BEFORE: [Row; 4] = [
 ];
 
 /// The key, and the batch: the digits of their digests.
-const TAG: Tag = Tag {
+pub(crate) const TAG: Tag = Tag {
     key: *b"2f8fe63a6224321de5d0a24cf30067d3",
     body: *b"10d039e90c62ba828bf7e5702bb54c21",
 };
 
 /// What who asks again is told then: why the first was refused is not known any more.
-const SOLD_SO: &str =
+pub(crate) const SOLD_SO: &str =
     "\r\n\r\nrow,answer,plan row,reason\n1,refused,,Memory\n2,accepted,3,\n3,accepted,4,\n";
 
 #[test]
@@ -265,6 +266,7 @@ fn what_was_sold_under_a_key_before_a_start_is_told_again(rt: HostRuntime) -> Re
         channels: ChannelSet::from_numbers(&[1, 2, 3])?,
         day: Day::new("2026-01-05", "UTC0")?,
         last: 600,
+        rate: 0,
         clock: None,
     };
     let Some(exchange) = exchange_of(alloc, &SOLD_BEFORE) else {
@@ -641,6 +643,7 @@ fn ran_until(alloc: Global, door: &Rc<RefCell<Door>>, ready: &Ready) -> Option<R
         channels: ChannelSet::from_numbers(ready.3).ok()?,
         day: Day::new("2026-01-05", "UTC0").ok()?,
         last: ready.2,
+        rate: 0,
         clock: None,
     };
     let run = Run {
@@ -663,7 +666,7 @@ fn whether_a_call_could_be_carried_is_told(rt: HostRuntime) -> Result<(), Fail> 
 }
 
 /// Three bookings at once, one later, and one that begins with the day.
-static AMENDED_ROWS: [Row; 5] = [
+pub(crate) static AMENDED_ROWS: [Row; 5] = [
     (100, 200, 1, false),
     (100, 200, 2, false),
     (100, 200, 3, false),
@@ -787,6 +790,7 @@ fn ran_amended(alloc: Global, door: &Rc<RefCell<Door>>) -> Option<Ran> {
         channels: ChannelSet::from_numbers(&[1, 2, 3]).ok()?,
         day: Day::new("2026-01-05", "UTC0").ok()?,
         last: 600,
+        rate: 0,
         clock: None,
     };
     let exchange = exchange_of(alloc, &AMENDED_ROWS)?;

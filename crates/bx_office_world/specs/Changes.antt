@@ -16,6 +16,7 @@ use Rattle.bx_office_door.specs.Guests.{client_of, IsAnswered, IsAnsweredThere, 
 use Rattle.bx_office_door.specs.declared.guest.Guest.{Guest}
 use Rattle.bx_office_world.specs.ChangedTexts.{changed_text}
 use Rattle.bx_office_world.specs.Sold.{is_within}
+use Rattle.bx_office_world.specs.Tariff.{is_paid}
 use Rattle.bx_office_world.specs.Serving.{IsPlain, IsBadBatch, book_status}
 use Rattle.bx_office_world.specs.declared.changes.BadChange.{BadChange}
 use Rattle.bx_office_world.specs.declared.changes.BadChange.TheVariants as bad
@@ -28,19 +29,21 @@ use Rattle.bx_office_world.specs.declared.serving.Desk.{Desk}
 abbrev pub IsBookIn : Opened → List ℕ → List Row → Type 0
 IsBookIn opened text rows = IsBook (strip_bom text) (span_of opened.day) rows
 
--- just this booking stands in the text, and it starts by the last second to which the day is run
+-- just this booking stands in the text, it starts by the last second to which the day is run, and pays what it has to pay at least
 abbrev pub IsChangeIn : Opened → List ℕ → Row → Type 0
-IsChangeIn opened text booking = IsBookIn opened text (booking ∷ []) × (is_within opened.last booking ≡ true)
+IsChangeIn opened text booking = IsBookIn opened text (booking ∷ []) × (is_within opened.last booking ≡ true) × (is_paid opened.rate booking ≡ true)
 
 abbrev pub IsBadChange : Opened → List ℕ → BadChange → Type 0
 IsBadChange opened text (bad.Book fault) = IsBadBatch opened text fault
 IsBadChange opened text bad.NotOne = (rows : List Row) × IsBookIn opened text rows × ¬ (length rows ≡ 1)
 IsBadChange opened text bad.AfterTheDay = (booking : Row) × IsBookIn opened text (booking ∷ []) × (is_within opened.last booking ≡ false)
+IsBadChange opened text bad.BelowRate = (booking : Row) × IsBookIn opened text (booking ∷ []) × (is_within opened.last booking ≡ true) × (is_paid opened.rate booking ≡ false)
 
 abbrev pub bad_status : BadChange → Status
 bad_status (bad.Book fault) = book_status fault
 bad_status bad.NotOne = statuses.BadRequest
 bad_status bad.AfterTheDay = statuses.Conflict
+bad_status bad.BelowRate = statuses.Conflict
 
 -- the body of the client of this number says this booking
 pub record IsChangeOf (desk : Desk) (number : ℕ) (guests : List Guest) (booking : Row) : Type 0 where

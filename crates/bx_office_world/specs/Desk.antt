@@ -27,7 +27,7 @@ use Rattle.bx_office_world.specs.declared.desk.Opened.{Opened}
 pub record IsQuoteAnswered (opened : Opened) (query : List ℕ) (entries : List Entry) (text : List ℕ) : Type 0 where
   pub call : Row
   pub is : IsCallOfQuery query (span_of opened.day) call
-  pub quoted : IsQuoteText entries opened.channels call text
+  pub quoted : IsQuoteText entries opened.channels opened.rate call text
 
 -- each path has just what its command says of the day as it stands
 abbrev pub IsWritten : Opened → Day → Figures → Sight → List ℕ → Route → Kind → List ℕ → Type 0

@@ -17,6 +17,8 @@ use Rattle.bx_office_world.specs.declared.serving.Pending.{Pending}
 use Rattle.bx_office_world.specs.declared.serving.Selling.{Selling}
 use Rattle.bx_office_world.specs.KnownKeys.{KnowsKey}
 use Rattle.bx_office_world.specs.Keying.{IsKeyPut, IsKeyNew, request_tag}
+use Rattle.bx_office_world.specs.Offered.{offered_of}
+use Rattle.bx_office_world.specs.declared.tariff.Terms.{Terms}
 use Rattle.bx_office_world.specs.declared.ledger.Keyed.{Keyed}
 use Rattle.bx_office_world.specs.declared.ledger.Told.{Told}
 use Rattle.bx_office_world.specs.declared.ledger.Told.TheVariants as told
@@ -82,8 +84,17 @@ abbrev pub told_again : ℕ → Told → List Row → List Entry → List Answer
 told_again rows (told.Answers kept) offered entries = kept.items
 told_again rows (told.Sold count) offered entries = answers_by offered (bookings_of (entries_after rows count entries))
 
-abbrev pub answers_again : Keyed → List Row → List Entry → List Answer
-answers_again request offered entries = told_again request.rows request.told offered entries
+-- by which terms it is told again: where no answers are kept, at which rate it was sold is not known, and each that was is told
+abbrev pub terms_then : Terms → Told → Terms
+terms_then terms (told.Answers kept) = terms
+terms_then terms (told.Sold count) = record { last = terms.last; rate = 0 }
+
+abbrev pub terms_again : Terms → Keyed → Terms
+terms_again terms request = terms_then terms request.told
+
+-- what is told of those of the bookings that are offered by these terms
+abbrev pub answers_again : Keyed → Terms → List Row → List Entry → List Answer
+answers_again request terms wanted entries = told_again request.rows request.told (offered_of terms wanted) entries
 
 -- these answers are kept, or memory ran out
 abbrev pub IsKeptTold : List Answer → Told → Type 0

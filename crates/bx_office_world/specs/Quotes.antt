@@ -1,5 +1,5 @@
 -- What a call would have to pay.
-use Rattle.std.specs.Prelude.{◌≡◌, ◌⊎◌, ◌<◌, ◌≤◌, ℕ, Bool, List, [], ◌∷◌, length, codes, Option, Some, None, if◌then◌else◌}
+use Rattle.std.specs.Prelude.{◌≡◌, ◌⊎◌, ◌<◌, ◌≤◌, ℕ, ◌-◌, max, Bool, List, [], ◌∷◌, length, codes, Option, Some, None, if◌then◌else◌}
 use Rattle.std.specs.Str.{bytes_eq}
 use Rattle.form_urlencoded.specs.Form as form
 use Rattle.bx_base.specs.Bookings.{Row}
@@ -10,6 +10,7 @@ use Rattle.bx_planner.specs.declared.answer.Quote.{Quote}
 use Rattle.bx_planner.specs.Quotes.{IsQuote, IsNoQuote, with_asked}
 use Rattle.bx_planner.specs.Texts.{quote_text}
 use Rattle.bx_office_world.specs.Answers.{IsPromisedPlan, IsNoPromisedPlan}
+use Rattle.bx_office_world.specs.Tariff.{least_pay}
 use Rattle.bx_office_world.specs.declared.fault.NoAnswer.{NoAnswer}
 use Rattle.bx_office_world.specs.declared.fault.NoAnswer.TheVariants.{NoTimes, Book, Quote as NoQuoteOf, Memory}
 use Rattle.bx_book.specs.declared.fault.BookFault.TheVariants.{EndNotAfterStart}
@@ -57,13 +58,17 @@ abbrev pub IsNoCallOfQuery : List ℕ → Span → NoAnswer → Type 0
 IsNoCallOfQuery query span (Book (EndNotAfterStart row)) = (row ≡ 1) × IsTurned query span
 IsNoCallOfQuery query span why = IsNoSecond query (codes "start") span why ⊎ ((start : ℕ) × IsSecondOfQuery query (codes "start") span start × IsNoSecond query (codes "end") span why)
 
--- what the command says of the call beside the last plan
-pub record IsQuoteText (entries : List Entry) (channels : List Bool) (call : Row) (text : List ℕ) : Type 0 where
+-- the same where nothing is sold below its least pay at this rate: whatever pays more than this threshold pays at least that too
+abbrev pub quote_at : ℕ → Row → Quote → Quote
+quote_at rate call quote = record quote { threshold = max quote.threshold (least_pay rate call - 1) }
+
+-- what the command says of the call beside the last plan, at this rate
+pub record IsQuoteText (entries : List Entry) (channels : List Bool) (rate : ℕ) (call : Row) (text : List ℕ) : Type 0 where
   pub plan : Parts
   pub promised : IsPromisedPlan entries channels plan
   pub quote : Quote
   pub is : IsQuote (with_asked plan.rows call) plan (length plan.rows) quote
-  pub are : text ≡ quote_text quote
+  pub are : text ≡ quote_text (quote_at rate call quote)
 
 -- why it says nothing: there is no last plan, or no quote beside it
 abbrev pub IsNoQuoteText : List Entry → List Bool → Row → NoAnswer → Type 0

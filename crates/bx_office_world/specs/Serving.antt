@@ -1,7 +1,7 @@
 -- Private: what each is told who waits at the door.
 use Rattle.std.specs.Prelude.{◌≡◌, ◌⊎◌, ℕ, Bool, true, false, List, length, codes, Option, Some, None, IfSome, Vec}
 use Rattle.std.specs.declared.alloc.Global.{Global}
-use Rattle.bx_office_world.specs.Offered.{within_day}
+use Rattle.bx_office_world.specs.Offered.{terms_of, offered_of}
 use Rattle.bx_office_world.specs.Sold.{sold_text}
 use Rattle.bx_office_world.specs.declared.fault.NoAnswer.{NoAnswer}
 use Rattle.bx_office_world.specs.declared.fault.NoAnswer.TheVariants as no
@@ -32,12 +32,13 @@ use Rattle.bx_office_world.specs.Statuses.{status_at}
 use Rattle.bx_office_world.specs.Metrics.{metrics_text}
 use Rattle.bx_office_world.specs.Desk.{IsWritten, IsUnanswered}
 use Rattle.bx_office_world.specs.KnownKeys.{keys_in, key_at}
-use Rattle.bx_office_world.specs.Ledgers.{request_at, tag_asked, answers_again}
+use Rattle.bx_office_world.specs.Ledgers.{request_at, tag_asked, terms_again, answers_again}
 use Rattle.bx_office_world.specs.declared.ledger.Keyed.{Keyed}
 use Rattle.bx_office_world.specs.declared.desk.Opened.{Opened}
 use Rattle.bx_office_world.specs.declared.serving.Order.{Order}
 use Rattle.bx_office_world.specs.declared.serving.Desk.{Desk}
 use Rattle.bx_office_world.specs.declared.serving.Selling.{Selling}
+use Rattle.bx_office_world.specs.declared.tariff.Terms.{Terms}
 use Rattle.bx_planner.specs.declared.answer.NoQuote.TheVariants as quotes
 
 -- ---- how answers begin
@@ -91,10 +92,10 @@ IsServed desk d number route old new = ((client_of number old ≡ None) × (new 
 
 -- ---- a request that asks for bookings to be sold
 
--- wanted is just what the text says, and of that what starts by the last second to which the day is run is offered
+-- wanted is just what the text says, and of that is offered what starts by the last second to which the day is run and pays its least pay
 pub record IsBatchIn (opened : Opened) (text : List ℕ) (wanted offered : List Row) : Type 0 where
   pub read : IsBook (strip_bom text) (span_of opened.day) wanted
-  pub within : offered ≡ within_day opened.last wanted
+  pub within : offered ≡ offered_of (terms_of opened) wanted
 
 abbrev pub IsBadBatch : Opened → List ℕ → BookFault → Type 0
 IsBadBatch opened text fault = IsBookFault (strip_bom text) (span_of opened.day) fault
@@ -119,24 +120,24 @@ abbrev pub IsBatchRead : Desk → ℕ → List Guest → List Guest → Option O
 IsBatchRead desk number old new None = ((client_of number old ≡ None) × (new ≡ old)) ⊎ IsFaulted desk number old new
 IsBatchRead desk number old new (Some batch) = (new ≡ old) × IsBatchOf desk number old batch.wanted batch.offered
 
-abbrev pub IsSoldReply : ℕ → ℕ → List Row → List Answer → Reply → Type 0
-IsSoldReply last rows wanted answers reply = ((reply.status ≡ statuses.Fine) × (reply.kind ≡ kinds.Csv) × (reply.allowed ≡ methods.Unsaid) × (reply.body.now ≡ sold_text last rows wanted answers))
+abbrev pub IsSoldReply : Terms → ℕ → List Row → List Answer → Reply → Type 0
+IsSoldReply terms rows wanted answers reply = ((reply.status ≡ statuses.Fine) × (reply.kind ≡ kinds.Csv) × (reply.allowed ≡ methods.Unsaid) × (reply.body.now ≡ sold_text terms rows wanted answers))
     ⊎ (IsPlain statuses.Unavailable reply × (reply.body.now ≡ codes "Memory: what is sold stands in the plan\n"))
 
 -- just the client of this number is told what becomes of a batch
-pub record IsToldSold (last rows : ℕ) (wanted : List Row) (answers : List Answer) (number : ℕ) (old new : List Guest) : Type 0 where
+pub record IsToldSold (terms : Terms) (rows : ℕ) (wanted : List Row) (answers : List Answer) (number : ℕ) (old new : List Guest) : Type 0 where
   pub reply : Reply
-  pub is : IsSoldReply last rows wanted answers reply
+  pub is : IsSoldReply terms rows wanted answers reply
   pub answered : IsAnsweredThere number reply old new
 
 -- Under a key: where the same was asked for, the same is told again, or memory ran out; else that something else was
-abbrev pub IsSameTold : Bool → ℕ → Day → Order → Keyed → ℕ → List Guest → List Guest → Type 0
-IsSameTold true last d batch request number old new =
-    IsToldSold last request.rows batch.wanted (answers_again request batch.offered d.entries) number old new ⊎ IsRefusing statuses.Unavailable number old new
-IsSameTold false last d batch request number old new = IsRefusing statuses.Unprocessable number old new
+abbrev pub IsSameTold : Bool → Terms → Day → Order → Keyed → ℕ → List Guest → List Guest → Type 0
+IsSameTold true terms d batch request number old new =
+    IsToldSold (terms_again terms request) request.rows batch.wanted (answers_again request (terms_again terms request) batch.wanted d.entries) number old new ⊎ IsRefusing statuses.Unavailable number old new
+IsSameTold false terms d batch request number old new = IsRefusing statuses.Unprocessable number old new
 
-abbrev pub IsToldAgain : ℕ → Day → Tag → Order → Keyed → ℕ → List Guest → List Guest → Type 0
-IsToldAgain last d tag batch request number old new = IsSameTold (bytes_eq request.tag.body tag.body) last d batch request number old new
+abbrev pub IsToldAgain : Terms → Day → Tag → Order → Keyed → ℕ → List Guest → List Guest → Type 0
+IsToldAgain terms d tag batch request number old new = IsSameTold (bytes_eq request.tag.body tag.body) terms d batch request number old new
 
 -- something was asked for under the key of this client's request before, and that is told again
 pub record IsRepeated (desk : Desk) (requests : List Keyed) (d : Day) (number : ℕ) (old new : List Guest) : Type 0 where
@@ -146,7 +147,7 @@ pub record IsRepeated (desk : Desk) (requests : List Keyed) (d : Day) (number : 
   pub of : IsBatchOf desk number old batch.wanted batch.offered
   pub place : ℕ
   pub known : key_at (keys_in requests) place ≡ tag.key
-  pub told : IsToldAgain desk.opened.now.last d tag batch (request_at requests place) number old new
+  pub told : IsToldAgain (terms_of desk.opened.now) d tag batch (request_at requests place) number old new
 
 -- its body has a fault, its client has hung up, it is told again what was told under its key, or there is no memory for its key: nothing is sold
 abbrev pub IsNotSold : Desk → List Keyed → Day → ℕ → List Guest → List Guest → Type 0

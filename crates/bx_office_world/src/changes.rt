@@ -8,6 +8,7 @@ ghost use Rattle.bx_office_world.specs.ChangedTexts.{change_word, changed_text};
 use crate::desk::Opened;
 use crate::serving::{Desk, book_status, refuse, reply_of};
 use crate::sold::is_within;
+use crate::tariff::is_paid;
 use bx_base::Booking;
 use bx_book::{BookFault, read_bookings};
 use bx_office::{Kind, Status};
@@ -37,6 +38,9 @@ pub(crate) enum BadChange {
     /// The booking starts after the last second to which the day is run.
     #[error("AfterTheDay")]
     AfterTheDay,
+    /// The booking pays less than its started minutes have to.
+    #[error("BelowRate")]
+    BelowRate,
 }
 
 /// The booking of a text that has just one, at an office that was opened with this.
@@ -55,6 +59,9 @@ fn change_in(alloc: Global, opened: &Opened, text: &[u8]) -> Result<Booking, Bad
     if !is_within(opened.last, booking) {
         return Err(BadChange::AfterTheDay);
     }
+    if !is_paid(opened.rate, &booking) {
+        return Err(BadChange::BelowRate);
+    }
     Ok(booking)
 }
 
@@ -65,7 +72,7 @@ fn bad_status(fault: BadChange) -> Status
     match fault {
         BadChange::Book(fault) => book_status(fault),
         BadChange::NotOne => Status::BadRequest,
-        BadChange::AfterTheDay => Status::Conflict,
+        BadChange::AfterTheDay | BadChange::BelowRate => Status::Conflict,
     }
 }
 

@@ -3,6 +3,7 @@
 ghost use Rattle.std.specs.Prelude.{◌≡◌, Ok, Err, IfOk, IfErr};
 ghost use Rattle.bx_day_chart.specs.Charts.{IsDayChart};
 ghost use Rattle.bx_day_chart.specs.Sights.{sight_of};
+ghost use Rattle.bx_office_world.specs.Offered.{terms_of};
 ghost use Rattle.bx_office_world.specs.Desk.{IsQuoteAnswered, IsWritten, IsQuoteUnanswered, IsUnanswered};
 ghost use Rattle.bx_office_world.specs.FreeTimes.{IsFreeAnswered, IsFreeUnanswered};
 
@@ -13,6 +14,7 @@ use crate::health::{health_text, ready_now, ready_text};
 use crate::last_plans::plan_text;
 use crate::metrics::{Figures, metrics_text};
 use crate::quoting::{call_of, quote_text};
+use crate::tariff::Terms;
 use crate::texts::{outcomes_text, records_text};
 use crate::wishing::wish_of;
 use bx_base::ChannelSet;
@@ -23,13 +25,26 @@ use bx_office::{Kind, Route};
 use std::alloc::Global;
 
 /// What the office was opened with: the channels in service, the day, the last second to which it is run, after which none begins but for
-/// a call that is up, and the clock of its zone for records.
+/// a call that is up, the least pay of each started minute of what is sold, where 0 is none, and the clock of its zone for records.
 #[derive(Clone, Copy)]
 pub struct Opened {
     pub channels: ChannelSet,
     pub day: Day,
     pub last: u32,
+    pub rate: u32,
     pub clock: Option<Clock>,
+}
+
+impl Opened {
+    /// What is offered.
+    pub(crate) fn terms(&self) -> Terms
+        ensures { result ≡ terms_of self.now }
+    {
+        Terms {
+            last: self.last,
+            rate: self.rate,
+        }
+    }
 }
 
 /// A text, and what it is.
@@ -61,7 +76,7 @@ fn quoted(
     ensures none { IfErr result (IsQuoteUnanswered opened.now query.now exchange.now.entries) }
 {
     let call = call_of(alloc, query, &opened.day)?;
-    match quote_text(alloc, exchange, opened.channels, &call) {
+    match quote_text(alloc, exchange, opened.channels, opened.rate, &call) {
         Ok(text) => Ok(text),
         Err(why) => Err(why),
     }

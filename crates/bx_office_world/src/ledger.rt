@@ -3,8 +3,10 @@
 ghost use Rattle.std.specs.Prelude.{◌≡◌, ◌⊎◌, ◌<◌, ◌++◌, ◌∷◌, [], length, IfOk, IfSome, IfNone, OnOk, OnErr};
 ghost use Rattle.bx_office_world.specs.KnownKeys.{known_keys, key_at, KnowsKey, KnowsTags, IsFull};
 ghost use Rattle.bx_office_world.specs.Keying.{LacksKey};
-ghost use Rattle.bx_office_world.specs.Ledgers.{digits_of, tag_for, KeepsKeys, is_same_call, bookings_of, answers_by, answers_again, IsKeptTold};
+ghost use Rattle.bx_office_world.specs.Ledgers.{digits_of, tag_for, KeepsKeys, is_same_call, bookings_of, answers_by, terms_again, answers_again, IsKeptTold};
 
+use crate::sold::offered_of;
+use crate::tariff::Terms;
 use bx_base::{Booking, Bookings};
 use bx_day::{Entry, Exchange};
 use bx_market::Answer;
@@ -112,21 +114,34 @@ fn told_of(alloc: Global, answers: &[Answer]) -> Told
 }
 
 impl Keyed {
-    /// What is told again of this request, whose bookings these are, on a day of these entries.
+    /// By which terms this request is told again: where no answers are kept, at which rate its bookings were sold is not known, and each that was is
+    /// told.
+    pub(crate) fn terms(&self, terms: Terms) -> Terms
+        ensures { result ≡ terms_again terms self.now }
+    {
+        match &self.told {
+            Told::Answers(_) => terms,
+            Told::Sold(_) => Terms { rate: 0, ..terms },
+        }
+    }
+
+    /// What is told again of this request, of whose bookings those were offered that these terms allow, on a day of these entries.
     pub(crate) fn answers(
         &self,
         alloc: Global,
-        offered: &Bookings,
+        terms: Terms,
+        wanted: &Bookings,
         entries: &[Entry],
     ) -> Result<Vec<Answer>, AllocError>
-        ensures { IfOk result (λ answers. answers.items ≡ answers_again self.now offered.now entries.now) }
+        ensures { IfOk result (λ answers. answers.items ≡ answers_again self.now terms wanted.now entries.now) }
     {
         match &self.told {
             Told::Answers(answers) => answers.clone(),
             Told::Sold(count) => {
+                let offered = offered_of(alloc, terms, wanted)?;
                 let first = entries.len().min(self.rows as usize);
                 let end = entries.len().min(first + *count as usize);
-                sold_again(alloc, offered, &entries[first..end])
+                sold_again(alloc, &offered, &entries[first..end])
             }
         }
     }

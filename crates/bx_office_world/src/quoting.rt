@@ -7,13 +7,14 @@ ghost use Rattle.bx_office_world.specs.Quotes.{IsSecondOfQuery, IsNoSecond, IsCa
 
 use crate::fault::NoAnswer;
 use crate::promised::promised_plan;
+use crate::quote_lines::quote_lines;
+use crate::tariff::least_pay;
 use bx_base::{Booking, ChannelSet};
 use bx_book::{BookFault, moment};
 use bx_calendar::Day;
 use bx_channels::Number;
 use bx_day::Exchange;
-use bx_devices::Watched;
-use bx_planner::{NoQuote, QuoteFault, write_quote};
+use bx_planner::quote;
 use form_urlencoded::{decode, raw_pairs};
 use std::alloc::Global;
 
@@ -71,22 +72,27 @@ pub fn call_of(alloc: Global, query: &[u8], day: &Day) -> Result<Booking, NoAnsw
     }
 }
 
-/// What a call would have to pay beside all that is promised, in the lines of `bx quote`. The faults are those of `promised_plan`, and
-/// `Quote` where there is none.
+/// What a call would have to pay beside all that is promised, in the lines of `bx quote`: at this rate of each started minute it is taken
+/// above whatever is below its least pay too, where 0 is no rate. The faults are those of `promised_plan`, and `Quote` where there is none.
 pub fn quote_text(
     alloc: Global,
     exchange: &Exchange,
     channels: ChannelSet,
+    rate: u32,
     call: &Booking,
 ) -> Result<Vec<u8>, NoAnswer>
-    ensures text { IfOk result (λ text. IsQuoteText exchange.now.entries channels call.now text.items) }
+    ensures text { IfOk result (λ text. IsQuoteText exchange.now.entries channels rate call.now text.items) }
     ensures none { IfErr result (IsNoQuoteText exchange.now.entries channels call.now) }
 {
     let plan = promised_plan(alloc, exchange, channels)?;
-    let mut text = Watched::new(Vec::new(alloc));
-    match write_quote(alloc, &plan, call, &mut text) {
-        Ok(()) => Ok(text.into_inner()),
-        Err(QuoteFault::Quote(why)) => Err(NoAnswer::Quote(why)),
-        Err(QuoteFault::WriteFailed) => Err(NoAnswer::Memory),
+    let mut quote = match quote(alloc, &plan, call) {
+        Ok(quote) => quote,
+        Err(why) => return Err(NoAnswer::Quote(why)),
+    };
+    let unpaid = least_pay(rate, call).saturating_sub(1);
+    quote.threshold = quote.threshold.max(unpaid);
+    match quote_lines(alloc, &quote) {
+        Ok(text) => Ok(text),
+        Err(_) => Err(NoAnswer::Memory),
     }
 }

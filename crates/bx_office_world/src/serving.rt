@@ -5,6 +5,7 @@ ghost use Rattle.bx_office_world.specs.Counting.{begin_counted, is_without_link,
 ghost use Rattle.bx_office_door.specs.Doors.{guests_of};
 ghost use Rattle.bx_office_world.specs.KnownKeys.{known_keys};
 ghost use Rattle.bx_office_world.specs.Keying.{IsKeyPut};
+ghost use Rattle.bx_office_world.specs.Offered.{terms_of};
 ghost use Rattle.bx_office_world.specs.Ledgers.{tag_asked, IsBatchKeyTaken, IsKeyTaken};
 ghost use Rattle.bx_office_world.specs.Serving.{reply_status_of, book_status, IsRefusing, IsServed, IsBatchIn, IsBadBatch, IsBatchRead, IsToldAgain, IsBatchTaken, IsToldSold, IsPrepared};
 ghost use Rattle.bx_office_world.specs.Served.{is_long, IsTurnTaken, IsServing};
@@ -17,7 +18,8 @@ use crate::fault::NoAnswer;
 use crate::health::status_at;
 use crate::ledger::{Keyed, Ledger, tag_for};
 use crate::metrics::{Figures, metrics_text};
-use crate::sold::{sold_text, within_day};
+use crate::sold::{offered_of, sold_text};
+use crate::tariff::Terms;
 use bx_base::Bookings;
 use bx_book::{BookFault, read_bookings};
 use bx_day::Exchange;
@@ -54,7 +56,7 @@ pub(crate) enum Pending {
     Change(Changing),
 }
 
-/// The bookings of a request, and those of them that are offered: they start by the last second to which the day is run.
+/// The bookings of a request, and those of them that are offered.
 #[derive(Drop)]
 struct Order {
     wanted: Bookings,
@@ -108,7 +110,7 @@ fn batch_in(alloc: Global, opened: &Opened, text: &[u8]) -> Result<Order, BookFa
     ensures fault { IfErr result (IsBadBatch opened.now text.now) }
 {
     let wanted = read_bookings(alloc, text, &opened.day)?;
-    match within_day(alloc, opened.last, &wanted) {
+    match offered_of(alloc, opened.terms(), &wanted) {
         Ok(offered) => Ok(Order { wanted, offered }),
         Err(_) => Err(BookFault::Memory),
     }
@@ -221,7 +223,7 @@ impl Desk<'_> {
         batch: &Order,
         request: &Keyed,
     )
-        ensures { IsToldAgain self.now.opened.now.last exchange.now tag batch.now request.now number (guests_of door.old) (guests_of door.new) }
+        ensures { IsToldAgain (terms_of self.now.opened.now) exchange.now tag batch.now request.now number (guests_of door.old) (guests_of door.new) }
     {
         if request.tag.body != tag.body {
             refuse(
@@ -233,11 +235,12 @@ impl Desk<'_> {
             );
             return;
         }
-        match request.answers(alloc, &batch.offered, exchange.entries()) {
+        let terms = request.terms(self.opened.terms());
+        match request.answers(alloc, terms, &batch.wanted, exchange.entries()) {
             Ok(answers) => tell_batch(
                 alloc,
                 door,
-                self.opened.last,
+                terms,
                 number,
                 request.rows,
                 &batch.wanted,
@@ -365,21 +368,21 @@ impl Desk<'_> {
     }
 }
 
-/// Tells the customer of a batch what is sold of it, on a day that is run to this second.
+/// Tells the customer of a batch what is sold of it by these terms.
 pub(crate) fn tell_sold(
     alloc: Global,
     door: &mut Door,
-    last: u32,
+    terms: Terms,
     selling: &Selling,
     answers: &[Answer],
 )
-    ensures { IsToldSold last selling.now.rows selling.now.wanted answers.now selling.now.customer.number (guests_of door.old) (guests_of door.new) }
+    ensures { IsToldSold terms selling.now.rows selling.now.wanted answers.now selling.now.customer.number (guests_of door.old) (guests_of door.new) }
 {
     let number = selling.customer.number();
     tell_batch(
         alloc,
         door,
-        last,
+        terms,
         number,
         selling.rows,
         &selling.wanted,
@@ -391,15 +394,15 @@ pub(crate) fn tell_sold(
 fn tell_batch(
     alloc: Global,
     door: &mut Door,
-    last: u32,
+    terms: Terms,
     number: u64,
     rows: u16,
     wanted: &Bookings,
     answers: &[Answer],
 )
-    ensures { IsToldSold last rows wanted.now answers.now number (guests_of door.old) (guests_of door.new) }
+    ensures { IsToldSold terms rows wanted.now answers.now number (guests_of door.old) (guests_of door.new) }
 {
-    match sold_text(alloc, last, rows, wanted, answers) {
+    match sold_text(alloc, terms, rows, wanted, answers) {
         Ok(text) => door.answer(number, reply_of(Status::Fine, Kind::Csv, &text)),
         Err(_) => door.answer(
             number,

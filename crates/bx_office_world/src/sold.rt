@@ -2,9 +2,10 @@
 
 ghost use Rattle.std.specs.Prelude.{◌≡◌, ◌≤◌, ◌++◌, drop, length, IfOk, OnOk};
 ghost use Rattle.bx_base.specs.declared.bookings.TheConstants.{MAX_BOOKINGS};
-ghost use Rattle.bx_office_world.specs.Offered.{within_day};
-ghost use Rattle.bx_office_world.specs.Sold.{is_within, reason_of, is_brief, is_sold_answer, next_answer, answer_line, after_line, sold_text};
+ghost use Rattle.bx_office_world.specs.Offered.{offered_of};
+ghost use Rattle.bx_office_world.specs.Sold.{is_within, is_offered, reason_of, is_brief, is_sold_answer, next_answer, answer_line, unoffered_reason, unoffered_line, sold_text};
 
+use crate::tariff::{Terms, is_paid};
 use bx_base::{Booking, Bookings};
 use bx_market::Answer;
 use bx_sales::NoSale;
@@ -18,18 +19,25 @@ pub(crate) fn is_within(last: u32, booking: Booking) -> bool
     booking.start() <= last
 }
 
-/// Those of some bookings that start by the last second to which the day is run: no second begins after it but for a call that is up.
-pub(crate) fn within_day(
+/// Whether a booking is offered: no second begins after the last one but for a call that is up.
+fn is_offered(terms: Terms, booking: Booking) -> bool
+    ensures { result ≡ is_offered terms booking }
+{
+    is_within(terms.last, booking) && is_paid(terms.rate, &booking)
+}
+
+/// Those of some bookings that are offered.
+pub(crate) fn offered_of(
     alloc: Global,
-    last: u32,
+    terms: Terms,
     wanted: &Bookings,
 ) -> Result<Bookings, AllocError>
-    ensures { IfOk result (λ offered. offered ≡ within_day last wanted.now) }
+    ensures { IfOk result (λ offered. offered ≡ offered_of terms wanted.now) }
 {
     let mut offered = Bookings::new(alloc);
     for index in 0..wanted.len() {
         let booking = wanted.nth(index);
-        if is_within(last, booking) {
+        if is_offered(terms, booking) {
             match offered.push(booking) {
                 Ok(()) => {}
                 Err(_) => return Err(AllocError),
@@ -89,12 +97,30 @@ fn push_line(
     }
 }
 
+/// Why a booking was not offered, in a word.
+fn unoffered_reason(terms: Terms, booking: Booking) -> &'static [u8]
+    ensures { result.now ≡ unoffered_reason terms booking }
+{
+    if is_within(terms.last, booking) {
+        b"BelowRate"
+    } else {
+        b"AfterTheDay"
+    }
+}
+
 /// Appends the line of a booking that was not offered.
-fn push_after(text: &mut Vec<u8>, row: u64) -> Result<(), AllocError>
-    ensures { OnOk result (text.new.items ≡ text.old.items ++ after_line row) }
+fn push_unoffered(
+    text: &mut Vec<u8>,
+    row: u64,
+    terms: Terms,
+    booking: Booking,
+) -> Result<(), AllocError>
+    ensures { OnOk result (text.new.items ≡ text.old.items ++ unoffered_line row terms booking) }
 {
     append_decimal(text, row)?;
-    text.extend_from_slice(b",refused,,AfterTheDay\n")
+    text.extend_from_slice(b",refused,,")?;
+    text.extend_from_slice(unoffered_reason(terms, booking))?;
+    text.extend_from_slice(b"\n")
 }
 
 /// Whether a booking has a row in the plan now.
@@ -118,17 +144,18 @@ fn answer_at(answers: &[Answer], place: usize) -> Answer
     }
 }
 
-/// What a customer is told of a batch, as CSV: a header, and a line for each of its bookings. Of those that start by the last second to
-/// which the day is run these are the answers, in their order; the others are refused, as `AfterTheDay`. After so many rows of the plan
-/// stand the accepted ones, in their order, those that last less than three seconds with `TooShort`. `AllocError` where memory runs out.
+/// What a customer is told of a batch, as CSV: a header, and a line for each of its bookings. Of those that are offered these are the
+/// answers, in their order; the others are refused: as `AfterTheDay` what starts after the last second, and else as `BelowRate`. After so many
+/// rows of the plan stand the accepted ones, in their order, those that last less than three seconds with `TooShort`. `AllocError` where
+/// memory runs out.
 pub fn sold_text(
     alloc: Global,
-    last: u32,
+    terms: Terms,
     rows: u16,
     wanted: &Bookings,
     answers: &[Answer],
 ) -> Result<Vec<u8>, AllocError>
-    ensures { IfOk result (λ text. text.items ≡ sold_text last rows wanted.now answers.now) }
+    ensures { IfOk result (λ text. text.items ≡ sold_text terms rows wanted.now answers.now) }
 {
     let mut text = Vec::new(alloc);
     text.extend_from_slice(b"row,answer,plan row,reason\n")?;
@@ -137,7 +164,7 @@ pub fn sold_text(
     for index in 0..wanted.len() {
         let booking = wanted.nth(index);
         let row = u64::from(index) + 1;
-        if is_within(last, booking) {
+        if is_offered(terms, booking) {
             let answer = answer_at(answers, told);
             push_line(&mut text, row, booking, answer, place)?;
             told += 1;
@@ -145,7 +172,7 @@ pub fn sold_text(
                 place += 1;
             }
         } else {
-            push_after(&mut text, row)?;
+            push_unoffered(&mut text, row, terms, booking)?;
         }
     }
     Ok(text)

@@ -86,8 +86,8 @@ impl<'a> Office<'a> {
     /// Tells the customer of a batch what is sold of it.
     fn tell_sold(&self, selling: &Selling, answers: &[Answer]) {
         if let Ok(mut guard) = self.door.try_borrow_mut() {
-            let last = self.desk.opened.last;
-            tell_sold(self.alloc, &mut guard, last, selling, answers);
+            let terms = self.desk.opened.terms();
+            tell_sold(self.alloc, &mut guard, terms, selling, answers);
         }
     }
 
