@@ -42,6 +42,8 @@ mod program;
 #[cfg(test)]
 mod quote_commands;
 #[cfg(test)]
+mod rates;
+#[cfg(test)]
 mod records;
 #[cfg(test)]
 mod rehearsals;

@@ -1,5 +1,5 @@
 -- Private: what the functions of a live day promise one another.
-use Rattle.std.specs.Prelude.{◌≡◌, ◌⊎◌, ℕ, Bool, true, false, List, Option, Some, None}
+use Rattle.std.specs.Prelude.{◌≡◌, ◌⊎◌, ℕ, Bool, true, false, List, Option, Some, None, unwrap_or}
 use Rattle.bx_day.specs.Day.{Day}
 use Rattle.bx_day_openings.specs.Hours.{AreHours}
 use Rattle.bx_day_openings.specs.declared.hours.Hours.{Hours}
@@ -22,6 +22,11 @@ use Rattle.bx_journal_files.specs.declared.fault.LiveFault.{LiveFault}
 abbrev pub IsOpenAt : Bool → List Bool → Option Premises → Type 0
 IsOpenAt is_wanted channels None = is_wanted ≡ false
 IsOpenAt is_wanted channels (Some premises) = (is_wanted ≡ true) × (premises.channels ≡ channels)
+
+-- .. at the rate that the words name; 0, where they name none
+abbrev pub IsRatedAs : Option ℕ → Option Premises → Type 0
+IsRatedAs rate None = Unit {0}
+IsRatedAs rate (Some premises) = premises.rate ≡ unwrap_or rate 0
 
 -- an opened day was run, where the opening, the hours and whether there is an office are those of the words
 abbrev pub IsLiveRun : {F : Type 0} → Type 0 → (F → Option (List ℕ)) → LiveRequest → Hours → DayOpening → Option Premises → Day → Type 0

@@ -22,7 +22,8 @@ use std::fs::Files;
 use std::rc::Rc;
 use std::rt::Clock;
 
-/// What a booking office is opened with: its door, which the wire has too, and who tells of it, the channels in service, and the day.
+/// What a booking office is opened with: its door, which the wire has too, and who tells of it, the channels in service, the day, and the least
+/// pay of each started minute of what is sold, where 0 is none.
 #[derive(Drop)]
 pub struct Premises {
     pub door: Rc<RefCell<Door>>,
@@ -30,16 +31,24 @@ pub struct Premises {
     pub watched: Rc<RefCell<Door>>,
     pub channels: ChannelSet,
     pub day: Day,
+    pub rate: u32,
 }
 
-/// What an office is opened with on a day that is run to this second: what starts later is not sold.
-fn opened_until(turns: u32, channels: ChannelSet, day: Day, clock: Option<DayClock>) -> Opened
-    ensures { (result.last ≡ turns) × (result.channels ≡ channels) × (result.day ≡ day) × (result.clock ≡ clock) }
+/// What an office is opened with on a day that is run to this second, at this rate: what starts later, or pays less, is not sold.
+fn opened_until(
+    turns: u32,
+    rate: u32,
+    channels: ChannelSet,
+    day: Day,
+    clock: Option<DayClock>,
+) -> Opened
+    ensures { (result.last ≡ turns) × (result.rate ≡ rate) × (result.channels ≡ channels) × (result.day ≡ day) × (result.clock ≡ clock) }
 {
     Opened {
         channels,
         day,
         last: turns,
+        rate,
         clock,
     }
 }
@@ -81,13 +90,14 @@ pub fn run_with_office<
         watched,
         channels,
         day,
+        rate,
     } = premises;
     let wire = OfficeWire::new(wire, beside);
     let line = Line::new(true, wire).going_on(exchange.moment());
     let world = LineWorld::new(schedule, line, log);
     let clock = told.clock();
     let telling = Telling::new(rt, world, clock, told.is_shown);
-    let opened = opened_until(turns, channels, day, clock);
+    let opened = opened_until(turns, rate, channels, day, clock);
     let mut market = OfficeWorld {
         world: PlanWatched {
             world: telling,

@@ -4,7 +4,7 @@ ghost use Rattle.std.specs.Prelude.{◌≡◌, true, IfOk, IfErr, OnErr};
 ghost use Rattle.bx_calendar.specs.DayParts.{length_of};
 ghost use Rattle.bx_day_openings.specs.OpeningRefusals.{IsUnheard};
 ghost use Rattle.bx_live_commands.specs.LiveDays.{has_office, AreLiveTurns};
-ghost use Rattle.bx_live_commands.specs.LiveInside.{IsOpenAt};
+ghost use Rattle.bx_live_commands.specs.LiveInside.{IsOpenAt, IsRatedAs};
 ghost use Rattle.bx_live_commands.specs.LiveRefusals.{IsNoOffice};
 ghost use Rattle.bx_live_commands.specs.OfficePlaces.{port_behind, socket_behind, place_behind, IsOriginNamed};
 ghost use Rattle.bx_office.specs.Targets.{text_of};
@@ -102,8 +102,9 @@ fn premises_at(
     door: Door,
     channels: ChannelSet,
     day: Day,
+    rate: u32,
 ) -> Result<Premises, AllocError>
-    ensures { IfOk result (λ premises. premises.channels ≡ channels) }
+    ensures { IfOk result (λ premises. (premises.channels ≡ channels) × (premises.rate ≡ rate)) }
 {
     let Ok(door) = Rc::new(alloc, RefCell::new(door)) else {
         return Err(AllocError);
@@ -116,6 +117,7 @@ fn premises_at(
         watched,
         channels,
         day,
+        rate,
     })
 }
 
@@ -128,6 +130,7 @@ pub(crate) fn premises_of<'a, H: System>(
     hours: Hours,
 ) -> Result<Option<Premises>, DayCommandFault<'a>>
     ensures opened { IfOk result (IsOpenAt (has_office request.entry) channels) }
+    ensures rated { IfOk result (IsRatedAs request.entry.rate) }
     ensures wanted { OnErr result (has_office request.entry ≡ true) }
     ensures refused { IfErr result IsNoOffice }
 {
@@ -135,7 +138,9 @@ pub(crate) fn premises_of<'a, H: System>(
         (Some(place), Some(_)) => {
             let origin = origin_of(request.origin);
             let door = door_at(rt, place, origin, hours.schedule.instant(0))?;
-            Ok(Some(premises_at(rt.alloc(), door, channels, hours.day)?))
+            let rate = request.rate.unwrap_or(0);
+            let premises = premises_at(rt.alloc(), door, channels, hours.day, rate)?;
+            Ok(Some(premises))
         }
         _ => Ok(None),
     }
