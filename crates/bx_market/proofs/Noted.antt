@@ -17,7 +17,7 @@ use Rattle.bx_market.specs.Answers.{AreTold}
 use Rattle.bx_market.specs.Choices.{is_eligible, IsBestBatch}
 use Rattle.bx_market.specs.Choosing.{chosen_rows}
 use Rattle.bx_market.specs.Deals.{Deal, all_ran, sold_of}
-use Rattle.bx_market.specs.Offers.{Asks, IsOffered, IsOfferSettled, IsNext, IsNotedInAny, OrOver, TellsOfAny, why_not}
+use Rattle.bx_market.specs.Offers.{Asks, IsOffered, IsOfferSettled, IsSoldWhere, IsNotedInAny, OrOver, TellsOfAny, why_not}
 use Rattle.bx_market.specs.Stands.{Stand, Within, Filing}
 use Rattle.bx_market.proofs.Batches.{sold_none, offered_more, or_more}
 use Rattle.bx_market.proofs.Settled.{AreSettled, as_result, none_settled, step, all_told}
@@ -77,13 +77,13 @@ module _ {W : Type 0} {did : W → List Act → W → Type 0} {dealt : W → Lis
       }
 
 -- the day after the next one
-record IsNextOf (channels : List Bool) (is_chosen : Bool) (row : Row) (rest : List Row) (now d1 : Day) : Type 0 where
+record IsSoldWhereOf (channels : List Bool) (is_chosen : Bool) (row : Row) (rest : List Row) (now d1 : Day) : Type 0 where
   next : Day
-  is : IsNext channels is_chosen row now next
+  is : IsSoldWhere channels is_chosen row now next
   left : AreSoldInTurn channels rest next d1
   moment : next.moment ≡ now.moment
 
-next_of : (channels : List Bool) (b : Bool) (row : Row) (rest rows : List Row) (now d1 : Day) → rows ≡ cond b (row ∷ rest) rest → AreSoldInTurn channels rows now d1 → IsNextOf channels b row rest now d1
+next_of : (channels : List Bool) (b : Bool) (row : Row) (rest rows : List Row) (now d1 : Day) → rows ≡ cond b (row ∷ rest) rest → AreSoldInTurn channels rows now d1 → IsSoldWhereOf channels b row rest now d1
 next_of channels true row more rows now d1 are sold =
     let (next, is, left) = subst (λ (rs : List Row). AreSoldInTurn channels rs now d1) are sold in
     record { next = next; is = is; left = left; moment = ap (λ (x : Day). x.moment) is.day }
@@ -91,13 +91,13 @@ next_of channels false row more rows now d1 are sold = record { next = now; is =
 
 module _ {W : Type 0} (dealt : W → List Deal → W → Type 0) (more : (u v w : W) (xs ys : List Deal) → dealt u xs v → dealt v ys w → dealt u (xs ++ ys) w) (channels : List Bool) (u v w : W) (d d1 : Day) (tag : Option Tag) (batch : List Row) (chosen : List Bool) (best : IsBestBatch channels d batch chosen)
     (answers : List Answer) (i : ℕ) (noted : AreNoted dealt channels u v d d1 tag batch chosen answers i) (at : length answers ≡ i) (lt : i < length batch) where
-  here : (b : Bool) → b ≡ is_in chosen i → IsNextOf channels b (row_at batch i) (chosen_rows (drop (suc i) batch) (drop (suc i) chosen)) noted.now d1
-  here b is = subst (λ (c : Bool). IsNextOf channels c (row_at batch i) (chosen_rows (drop (suc i) batch) (drop (suc i) chosen)) noted.now d1) (sym is)
+  here : (b : Bool) → b ≡ is_in chosen i → IsSoldWhereOf channels b (row_at batch i) (chosen_rows (drop (suc i) batch) (drop (suc i) chosen)) noted.now d1
+  here b is = subst (λ (c : Bool). IsSoldWhereOf channels c (row_at batch i) (chosen_rows (drop (suc i) batch) (drop (suc i) chosen)) noted.now d1) (sym is)
       (next_of channels (is_in chosen i) (row_at batch i) (chosen_rows (drop (suc i) batch) (drop (suc i) chosen)) (chosen_rows (drop i batch) (drop i chosen)) noted.now d1 (chosen_next batch chosen i lt best.one_each) noted.left)
 
-  settled_so : (b : Bool) (a : Answer) (next : Day) → IsNext channels b (row_at batch i) noted.now next → a ≡ Accepted → b ≡ true → IsOfferSettled channels (row_at batch i) noted.now next (Ok a)
+  settled_so : (b : Bool) (a : Answer) (next : Day) → IsSoldWhere channels b (row_at batch i) noted.now next → a ≡ Accepted → b ≡ true → IsOfferSettled channels (row_at batch i) noted.now next (Ok a)
   settled_so b a next is accepted marked =
-      subst (λ (x : Answer). IsOfferSettled channels (row_at batch i) noted.now next (Ok x)) (sym accepted) (subst (λ (c : Bool). IsNext channels c (row_at batch i) noted.now next) marked is)
+      subst (λ (x : Answer). IsOfferSettled channels (row_at batch i) noted.now next (Ok x)) (sym accepted) (subst (λ (c : Bool). IsSoldWhere channels c (row_at batch i) noted.now next) marked is)
 
   -- one booking more
   pub noted_next : AreBookings batch → (a : Answer) (row : Row) (eligible is_chosen : Bool) → row ≡ row_at batch i → eligible ≡ is_eligible d batch i → is_chosen ≡ is_in chosen i
@@ -106,7 +106,7 @@ module _ {W : Type 0} (dealt : W → List Deal → W → Type 0) (more : (u v w 
   noted_next bookings a row eligible is_chosen row_is eligible_is chosen_is in_any accepted left_out =
       let n = here is_chosen chosen_is in
       let sold = sold_of batch answers in
-      let next_is : IsNext channels is_chosen row noted.now n.next = subst (λ (r : Row). IsNext channels is_chosen r noted.now n.next) (sym row_is) n.is in
+      let next_is : IsSoldWhere channels is_chosen row noted.now n.next = subst (λ (r : Row). IsSoldWhere channels is_chosen r noted.now n.next) (sym row_is) n.is in
       let offered : IsOffered dealt channels tag v w d batch sold row noted.now n.next (Ok a) = in_any channels d noted.now n.next batch sold next_is in
       let so : is_chosen ≡ true → IsOfferSettled channels row noted.now n.next (Ok a) = λ h. subst (λ (r : Row). IsOfferSettled channels r noted.now n.next (Ok a)) (sym row_is) (settled_so is_chosen a n.next n.is (accepted h) h) in
       let left : is_chosen ≡ false → as_result a ≡ as_result (Refused (why_not noted.now.moment row eligible)) = λ h. left_out h ∙ ap (λ (t : ℕ). as_result (Refused (why_not t row eligible))) (sym noted.settled.moment) in
@@ -121,7 +121,7 @@ module _ {W : Type 0} (dealt : W → List Deal → W → Type 0) (more : (u v w 
   pub noted_over : (row : Row) (is_chosen : Bool) (fault : CannotLog) → row ≡ row_at batch i → is_chosen ≡ is_in chosen i → IsNotedInAny dealt tag v w row is_chosen (Err fault) → (over : Day) × Asks dealt channels u w (Filing d d tag batch []) (Within (Over over))
   noted_over row is_chosen fault row_is chosen_is in_any =
       let n = here is_chosen chosen_is in
-      let next_is : IsNext channels is_chosen row noted.now n.next = subst (λ (r : Row). IsNext channels is_chosen r noted.now n.next) (sym row_is) n.is in
+      let next_is : IsSoldWhere channels is_chosen row noted.now n.next = subst (λ (r : Row). IsSoldWhere channels is_chosen r noted.now n.next) (sym row_is) n.is in
       let bad = in_any channels d noted.now n.next batch (sold_of batch answers) next_is in
       (bad.0, then_asked more noted.run bad.1)
 

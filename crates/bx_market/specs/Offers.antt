@@ -79,15 +79,15 @@ IsOfferSettled channels row d d1 (Ok (Refused Memory)) = Unit {0}
 IsOfferSettled channels row d d1 (Err fault) = Unit {0}
 
 -- a booking is sold, or nothing happens
-abbrev pub IsNext : List Bool → Bool → Row → Day → Day → Type 0
-IsNext channels true row d d1 = IsSold channels row d d1
-IsNext channels false row d d1 = d1 ≡ d
+abbrev pub IsSoldWhere : List Bool → Bool → Row → Day → Day → Type 0
+IsSoldWhere channels true row d d1 = IsSold channels row d d1
+IsSoldWhere channels false row d d1 = d1 ≡ d
 
 module _ {W : Type 0} (dealt : W → List Deal → W → Type 0) (tag : Option Tag) (old new : W) where
   -- of a booking of any batch it is in the journal that it is sold, where it is so, or nothing is
   abbrev pub IsNotedInAny : Row → Bool → Result Answer CannotLog → Type 0
   IsNotedInAny row chosen result =
-      (channels : List Bool) (shown d d1 : Day) (batch sold : List Row) → IsNext channels chosen row d d1 → IsOffered dealt channels tag old new shown batch sold row d d1 result
+      (channels : List Bool) (shown d d1 : Day) (batch sold : List Row) → IsSoldWhere channels chosen row d d1 → IsOffered dealt channels tag old new shown batch sold row d d1 result
 
   -- wherever the best choice of a batch is sold, that is in the journal and on the disk, and its customer is told
   abbrev pub NotesAny : ℕ → List Row → List Bool → List Bool → Result (Unit {0}) CannotLog → Type 0
