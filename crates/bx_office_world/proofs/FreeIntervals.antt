@@ -3,7 +3,7 @@ use Rattle.std.proofs.Common.{◌≡◌, ◌↔◌, ◌⊎◌, ℕ, ◌+◌, ◌
 use Rattle.std.proofs.lemmas.Bool.{true≢false, cases_lt}
 use Rattle.std.proofs.lemmas.List.{get_or_past, append-nil}
 use Rattle.bx_calendar.specs.declared.clock.Clock.{Clock}
-use Rattle.bx_office_world.specs.FreeStarts.{is_marked_at, AreStartMarks}
+use Rattle.bx_office_world.specs.StartMarks.{is_marked_at, AreStartMarks}
 use Rattle.bx_office_world.specs.FreeTimes.{Interval, IsNextInterval, AreInTurn, IsIntervalLine, AreIntervalLines, AreIntervalsTold}
 
 abbrev pub marked : List Bool → ℕ → Type 0

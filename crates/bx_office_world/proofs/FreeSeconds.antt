@@ -6,7 +6,8 @@ use Rattle.std.proofs.lemmas.List.{get_or-set_same, get_or-set_other, get_or_pas
 use Rattle.bx_base.specs.Bookings.{Row, row_at, is_running}
 use Rattle.bx_base.specs.Channels.{count_of}
 use Rattle.bx_day.specs.Day.{Day}
-use Rattle.bx_office_world.specs.FreeStarts.{running_below, IsWished, IsFreeStart, AreLoads, IsStartOn, is_marked_at, AreStartMarks}
+use Rattle.bx_office_world.specs.FreeStarts.{running_below, IsWished, IsFreeStart}
+use Rattle.bx_office_world.specs.StartMarks.{AreLoads, IsStartOn, is_marked_at, AreStartMarks}
 use Rattle.bx_office_world.specs.declared.desk.Opened.{Opened}
 use Rattle.bx_office_world.specs.declared.wish.Wish.{Wish}
 

@@ -1,5 +1,5 @@
 -- When a call may start beside all that is promised.
-use Rattle.std.specs.Prelude.{◌≡◌, ◌↔◌, ◌<◌, ◌≤◌, ◌+◌, ℕ, Bool, true, false, List, length, slice_index_or, if◌then◌else◌}
+use Rattle.std.specs.Prelude.{◌<◌, ◌≤◌, ◌+◌, ℕ, List, length, if◌then◌else◌}
 use Rattle.bx_base.specs.Bookings.{Row, row_at, is_running}
 use Rattle.bx_base.specs.Channels.{count_of}
 use Rattle.bx_base.specs.Sums.{sum_below}
@@ -33,22 +33,3 @@ pub record IsFreeStart (opened : Opened) (d : Day) (wish : Wish) (start : ℕ) :
   pub wished : IsWished d.moment opened.last wish start
   pub in_day : start + wish.length ≤ MAX_MOMENT
   pub free : (second : ℕ) → start ≤ second → second < start + wish.length → promised_at d.entries second < count_of opened.channels
-
--- ---- as they are found
-
--- what runs at each second of a day
-pub record AreLoads (entries : List Entry) (counts : List ℕ) : Type 0 where
-  pub size : length counts ≡ MAX_MOMENT
-  pub each : (second : ℕ) → second < MAX_MOMENT → slice_index_or counts second 0 ≡ promised_at entries second
-
-pub record IsStartOn (counts : List ℕ) (limit moment last : ℕ) (wish : Wish) (start : ℕ) : Type 0 where
-  pub wished : IsWished moment last wish start
-  pub in_day : start + wish.length ≤ length counts
-  pub free : (second : ℕ) → start ≤ second → second < start + wish.length → slice_index_or counts second 0 < limit
-
--- a mark for each second, which says whether this holds of it; beyond the last mark it holds of none
-abbrev pub is_marked_at : List Bool → ℕ → Bool
-is_marked_at marks second = slice_index_or marks second false
-
-abbrev pub AreStartMarks : List Bool → (ℕ → Type 0) → Type 0
-AreStartMarks marks P = (second : ℕ) → (is_marked_at marks second ≡ true) ↔ P second

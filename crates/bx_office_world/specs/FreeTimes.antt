@@ -44,9 +44,6 @@ pub record AreFirstIntervals (P : ℕ → Type 0) (intervals : List Interval) : 
 abbrev pub IsIntervalLine : Option Clock → Interval → List ℕ → Type 0
 IsIntervalLine clock i line = (from until : List ℕ) × IsTimeText clock i.from from × IsTimeText clock i.until until × (line ≡ from ++ codes "," ++ until ++ codes "\n")
 
-abbrev pub IsLineBetween : Option Clock → ℕ → ℕ → List ℕ → Type 0
-IsLineBetween clock from until line = IsIntervalLine clock (record { from = from; until = until }) line
-
 abbrev pub AreIntervalLines : Option Clock → List Interval → List ℕ → Type 0
 AreIntervalLines clock [] text = text ≡ []
 AreIntervalLines clock (i ∷ more) text = (line rest : List ℕ) × IsIntervalLine clock i line × AreIntervalLines clock more rest × (text ≡ line ++ rest)

@@ -20,6 +20,7 @@ pub mod Wishes
 pub mod FreeStarts
 pub mod FreeTimes
 pub mod FreeLaws
+pub mod StartMarks
 pub mod Tariff
 pub mod Sold
 pub mod Offered

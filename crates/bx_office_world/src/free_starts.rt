@@ -3,7 +3,8 @@
 ghost use Rattle.std.specs.Prelude.{◌≡◌, ◌↔◌, ◌≤◌, ◌<◌, ◌+◌, ℕ, IsTrue, IfOk, length, slice_index_or, if◌then◌else◌};
 ghost use Rattle.bx_base.specs.Bookings.{is_running};
 ghost use Rattle.bx_base.specs.declared.booking.TheConstants.{MAX_MOMENT};
-ghost use Rattle.bx_office_world.specs.FreeStarts.{running_below, IsWished, IsFreeStart, AreLoads, IsStartOn, AreStartMarks};
+ghost use Rattle.bx_office_world.specs.FreeStarts.{running_below, IsWished, IsFreeStart};
+ghost use Rattle.bx_office_world.specs.StartMarks.{AreLoads, IsStartOn, AreStartMarks};
 
 use crate::desk::Opened;
 use crate::wish::Wish;

@@ -4,8 +4,9 @@ ghost use Rattle.std.specs.Prelude.{◌≡◌, ◌≤◌, ◌<◌, ◌++◌, ℕ
 ghost use Rattle.bx_base.specs.declared.booking.TheConstants.{MAX_MOMENT};
 ghost use Rattle.bx_records.specs.Records.{IsTimeText};
 ghost use Rattle.bx_office_world.specs.Answers.{IsNoRecords};
-ghost use Rattle.bx_office_world.specs.FreeStarts.{is_marked_at, IsFreeStart};
-ghost use Rattle.bx_office_world.specs.FreeTimes.{IsLineBetween, AreIntervalsTold, IsFreeText};
+ghost use Rattle.bx_office_world.specs.FreeStarts.{IsFreeStart};
+ghost use Rattle.bx_office_world.specs.StartMarks.{is_marked_at, IsLineBetween};
+ghost use Rattle.bx_office_world.specs.FreeTimes.{AreIntervalsTold, IsFreeText};
 
 use crate::desk::Opened;
 use crate::fault::NoAnswer;

@@ -17,7 +17,8 @@ use Rattle.bx_day.specs.Extended.{with_standings, extended, IsExtendedBy}
 use Rattle.bx_day.specs.Invariant.{is_refused}
 use Rattle.bx_day.specs.declared.entry.Entry.{Entry}
 use Rattle.bx_sales.specs.Selling.{rows_of, marks_of, rows_with, marks_with, IsSold}
-use Rattle.bx_sales.specs.SellingAll.{AreLater, rows_and, marks_and, IsSaleOf}
+use Rattle.bx_sales.specs.SellingAll.{AreLater, rows_and, marks_and}
+use Rattle.bx_sales.specs.SoldTogether.{IsSaleOf}
 use Rattle.bx_sales.specs.Sold.{AreSoldInTurn}
 use Rattle.bx_sales.proofs.FirstFitFound.{first_fit_found}
 use Rattle.bx_sales.proofs.OneMore.{rows_sold_with, marks_sold_with}

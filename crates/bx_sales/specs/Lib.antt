@@ -13,3 +13,4 @@ pub mod Recolouring
 pub mod Tags
 pub mod TagSizes
 pub mod SellingAll
+pub mod SoldTogether

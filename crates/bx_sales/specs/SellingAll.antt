@@ -1,10 +1,9 @@
 -- Bookings that are sold in one step.
-use Rattle.std.specs.Prelude.{◌≡◌, ◌<◌, ℕ, Bool, true, List, ◌++◌, length, replicate, Option}
+use Rattle.std.specs.Prelude.{◌<◌, ℕ, Bool, true, List, ◌++◌, length, replicate, Option}
 use Rattle.bx_base.specs.Bookings.{Row, row_at}
 use Rattle.bx_colour.specs.Colouring.{IsFirstFit}
 use Rattle.bx_day.specs.Day.{Day}
-use Rattle.bx_day.specs.Extended.{extended, IsExtendedBy}
-use Rattle.bx_sales.specs.Sales.{IsSale}
+use Rattle.bx_day.specs.Extended.{IsExtendedBy}
 use Rattle.bx_sales.specs.Selling.{rows_of, marks_of}
 
 -- each of these bookings starts after moment t
@@ -17,13 +16,6 @@ rows_and d rows = rows_of d ++ rows
 
 abbrev pub marks_and : Day → List Row → List Bool
 marks_and d rows = marks_of d ++ replicate (length rows) true
-
--- the day goes on with these bookings, of which the marked ones are accepted, first fit
-pub record IsSaleOf (channels : List Bool) (rows : List Row) (marks : List Bool) (old new : Day) : Type 0 where
-  pub assigned : List (Option ℕ)
-  pub first_fit : IsFirstFit rows channels marks assigned
-  pub sale : IsSale channels old rows assigned
-  pub day : new ≡ extended rows assigned old
 
 -- the first-fit plan of these bookings is none that the day goes on with: one that has started would get another channel
 pub record IsOtherSaleOf (channels : List Bool) (rows : List Row) (marks : List Bool) (d : Day) : Type 0 where

@@ -4,7 +4,8 @@ ghost use Rattle.std.specs.Prelude.{◌≡◌, ◌<◌, ◌+◌, ◌↔◌, OnOk
 ghost use Rattle.bx_base.specs.declared.bookings.TheConstants.{MAX_BOOKINGS};
 ghost use Rattle.bx_colour.specs.Colouring.{FitsChannels};
 ghost use Rattle.bx_sales.specs.Selling.{rows_of, marks_of};
-ghost use Rattle.bx_sales.specs.SellingAll.{AreLater, rows_and, marks_and, IsSaleOf, IsOtherSaleOf};
+ghost use Rattle.bx_sales.specs.SellingAll.{AreLater, rows_and, marks_and, IsOtherSaleOf};
+ghost use Rattle.bx_sales.specs.SoldTogether.{IsSaleOf};
 ghost use Rattle.bx_sales.specs.Sold.{AreSoldInTurn};
 
 use crate::listing::{marks_and, rows_and};

@@ -1,5 +1,5 @@
 use Rattle.std.proofs.Common.{◌≡◌, ◌↔◌, ◌≤◌, ◌<◌, ℕ, true, length, slice_index_or}
-use Rattle.bx_office_world.specs.FreeStarts.{is_marked_at, IsStartOn}
+use Rattle.bx_office_world.specs.StartMarks.{is_marked_at, IsStartOn}
 use Rattle.bx_office_world.proofs.free_starts.starts_on.Given as goal
 
 abbrev pub invariant-loop-start : goal.invariant-loop-start

@@ -1,5 +1,6 @@
 use Rattle.std.proofs.Common.{◌≡◌, Bool, ℕ, List, sym, subst, codes, rules}
-use Rattle.bx_office_world.specs.FreeStarts.{IsFreeStart, AreStartMarks}
+use Rattle.bx_office_world.specs.FreeStarts.{IsFreeStart}
+use Rattle.bx_office_world.specs.StartMarks.{AreStartMarks}
 use Rattle.bx_office_world.specs.FreeTimes.{AreIntervalsTold}
 use Rattle.bx_office_world.proofs.FreeIntervals.{told_so}
 use Rattle.bx_office_world.proofs.free_times.free_text.Goals as goal

@@ -1,5 +1,5 @@
 use Rattle.std.proofs.Common.{◌≡◌, ◌≤◌, ◌<◌, ℕ, not}
-use Rattle.bx_office_world.specs.FreeStarts.{is_marked_at}
+use Rattle.bx_office_world.specs.StartMarks.{is_marked_at}
 use Rattle.bx_office_world.proofs.free_times.next_mark.Given as goal
 
 abbrev pub invariant-loop-second : goal.invariant-loop-second

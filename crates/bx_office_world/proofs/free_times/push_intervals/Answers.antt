@@ -1,5 +1,5 @@
 use Rattle.std.proofs.Common.{◌≡◌, ◌+◌, ◌-◌, ◌<◌, ℕ, true, length, subst, rules, arith}
-use Rattle.bx_office_world.specs.FreeStarts.{is_marked_at}
+use Rattle.bx_office_world.specs.StartMarks.{is_marked_at}
 use Rattle.bx_office_world.specs.FreeTimes.{IsNextInterval}
 use Rattle.bx_office_world.proofs.FreeIntervals.{marked, SoFar, one_more, moves_on, next_interval}
 use Rattle.bx_office_world.proofs.free_times.push_intervals.Goals as goal

@@ -3,7 +3,8 @@ use Rattle.bx_colour.specs.Colouring.{FitsChannels}
 use Rattle.bx_day.specs.Invariant.{is_refused}
 use Rattle.bx_day.specs.declared.entry.Entry.{Entry}
 use Rattle.bx_sales.specs.Selling.{marks_of}
-use Rattle.bx_sales.specs.SellingAll.{AreLater, marks_and, IsSaleOf}
+use Rattle.bx_sales.specs.SellingAll.{AreLater, marks_and}
+use Rattle.bx_sales.specs.SoldTogether.{IsSaleOf}
 use Rattle.bx_sales.proofs.InTurn.{all_in_turn, rows_in_turn, marks_in_turn}
 use Rattle.bx_sales.proofs.RowChanges.{ok_then, ok_both}
 use Rattle.bx_sales.proofs.selling_all.sell_all.Goals as goal
