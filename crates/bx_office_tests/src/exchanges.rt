@@ -18,7 +18,7 @@ const COMMON: &[u8] =
 /// What the clock shows meanwhile, in nanoseconds.
 const SHOWN: u128 = 1_774_821_601_999_999_999;
 
-static CASES: [Case; 60] = [
+static CASES: [Case; 47] = [
     Case {
         name: "nothing",
         sent: "",
@@ -254,6 +254,10 @@ static CASES: [Case; 60] = [
         sent: "GET /plan FTP/2.0\r\nHost: localhost:8080\r\n\r\n",
         answer: "HTTP/1.1 400 Bad Request\r\n~vary: origin\r\nconnection: close\r\ncontent-length: 23\r\n\r\nno request of HTTP/1.1\n",
     },
+];
+
+/// Bookings that are given up and changed. A table of their own, since one of all is past what the prover counts.
+static CHANGES: [Case; 13] = [
     Case {
         name: "a booking cancelled, and a page behind it",
         sent: "DELETE /bookings/17 HTTP/1.1\r\nHost: localhost:8080\r\n\r\nGET /plan HTTP/1.1\r\nHost: localhost:8080\r\n\r\n",
@@ -422,6 +426,13 @@ fn answers(alloc: Global, case: &Case) -> bool {
 #[test]
 fn clients_are_answered(rt: HostRuntime) {
     for case in &CASES {
+        assert!(rt; answers(rt.alloc(), case), "{}", case.name);
+    }
+}
+
+#[test]
+fn clients_that_change_bookings_are_answered(rt: HostRuntime) {
+    for case in &CHANGES {
         assert!(rt; answers(rt.alloc(), case), "{}", case.name);
     }
 }
