@@ -278,17 +278,17 @@ fn a_monitor_is_answered_beyond_the_places(rt: HostRuntime) -> Result<(), Fail> 
 }
 
 #[test]
-fn a_hundred_silent_ones_hold_the_door_for_two_seconds(rt: HostRuntime) -> Result<(), Fail> {
+fn a_hundred_silent_ones_hold_the_door_for_a_second(rt: HostRuntime) -> Result<(), Fail> {
     let (mut door, port) = opened(&rt, rt.alloc())?;
     let _silent = silent(&rt, rt.alloc(), &mut door, port, 100)?;
     let sent = request(rt.alloc(), "/", port)?;
     let mut last = client(&rt, port, &sent)?;
     for _turn in 0..20u32 {
-        door.attend(2 * SECOND, false);
+        door.attend(SECOND, false);
     }
-    assert!(rt; !begins(&mut door, &mut last, 2 * SECOND, b""), "it waits");
+    assert!(rt; !begins(&mut door, &mut last, SECOND, b""), "it waits");
     assert!(rt;
-        begins(&mut door, &mut last, 2 * SECOND + 1, b"HTTP/1.1 200 OK"),
+        begins(&mut door, &mut last, SECOND + 1, b"HTTP/1.1 200 OK"),
         "they are sent away"
     );
     Ok(())
