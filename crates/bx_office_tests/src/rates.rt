@@ -27,8 +27,9 @@ fn opened_at(rate: u32) -> Option<Opened> {
 
 /// Runs a day of these bookings for four seconds, with an office at this rate.
 fn ran_at(alloc: Global, door: &Rc<RefCell<Door>>, rows: &[Row], rate: u32) -> Option<Ran> {
-    let opened = opened_at(rate)?;
-    let exchange = exchange_of(alloc, rows)?;
+    let (Some(opened), Some(exchange)) = (opened_at(rate), exchange_of(alloc, rows)) else {
+        return None;
+    };
     ran_with(alloc, door, &opened, exchange, QUIET)
 }
 
