@@ -42,7 +42,7 @@ pub coloured : (rows : List Row) (allowed : ℕ → List Bool) (accepted : List 
 coloured rows allowed accepted assigned i c true e fit is = e
 coloured rows allowed accepted assigned i c false e fit is = absurd (true≢false (sym (ap is_some is) ∙ ap is_some (fit.refused i e)))
 
-earlier_starts : (rows : List Row) (j i : ℕ) → IsEarlier rows j i → (row_at rows j).start ≤ (row_at rows i).start
+pub earlier_starts : (rows : List Row) (j i : ℕ) → IsEarlier rows j i → (row_at rows j).start ≤ (row_at rows i).start
 earlier_starts rows j i e = elim e [ inl less ↦ omega (arith, less) | inr tie ↦ omega (arith, tie.0) ]
 
 -- an accepted row that starts by t
@@ -60,7 +60,7 @@ pub marked_among : (rows : List Row) (allowed : ℕ → List Bool) (accepted : L
 marked_among rows allowed accepted assigned i true fit e lt = ap is_some (fit.given i lt e).1
 marked_among rows allowed accepted assigned i false fit e lt = ap is_some (fit.refused i e)
 
-module _ (t : ℕ) (allowed allowed' : ℕ → List Bool) (rows : List Row) (accepted : List Bool) (assigned : List (Option ℕ)) (rows' : List Row) (accepted' : List Bool) (assigned' : List (Option ℕ)) (fit : IsFirstFitAmong rows allowed accepted assigned) (fit' : IsFirstFitAmong rows' allowed' accepted' assigned') (h : AreSameUpTo t rows accepted allowed rows' accepted' allowed') where
+module _ (t : ℕ) (allowed allowed' : ℕ → List Bool) (rows : List Row) (accepted : List Bool) (assigned : List (Option ℕ)) (rows' : List Row) (accepted' : List Bool) (assigned' : List (Option ℕ)) (fit : IsFirstFitAmong rows allowed accepted assigned) (h : AreSameUpTo t rows accepted allowed rows' accepted' allowed') where
   abbrev Begun : ℕ → Type 0
   Begun i = IsBegun t rows accepted i
 
@@ -82,55 +82,59 @@ module _ (t : ℕ) (allowed allowed' : ℕ → List Bool) (rows : List Row) (acc
       let sj : (row_at rows' j).start ≡ (row_at rows j).start = (same j bj).start in
       elim e [ inl less ↦ inl (omega (arith, less, si, sj)) | inr tie ↦ inr (omega (arith, tie.0, si, sj), tie.1) ]
 
-  taken_after : (i c : ℕ) → Begun i → ((j : ℕ) → Begun j → IsEarlier rows j i → Agrees j) → IsChannelTaken rows assigned i c → IsChannelTaken rows' assigned' i c
+  pub taken_after : (i c : ℕ) → Begun i → ((j : ℕ) → Begun j → IsEarlier rows j i → Agrees j) → IsChannelTaken rows assigned i c → IsChannelTaken rows' assigned' i c
   taken_after i c bi before k =
       let first = earlier_starts rows k.0 i k.2 in
       let bj : Begun k.0 = record { inside = k.1; marked = coloured rows allowed accepted assigned k.0 c (is_in accepted k.0) refl fit k.4; start = omega (arith, first, bi.start) } in
       (k.0, omega (arith, k.1, h.longer), earlier_after i k.0 bi bj k.2, overlap_after t (row_at rows k.0) (row_at rows i) (row_at rows' k.0) (row_at rows' i) (same k.0 bj) (same i bi) first bi.start k.3, before k.0 bj k.2 ∙ k.4)
 
-  taken_before : (i c : ℕ) → Begun i → ((j : ℕ) → Begun j → IsEarlier rows j i → Agrees j) → IsChannelTaken rows' assigned' i c → IsChannelTaken rows assigned i c
-  taken_before i c bi before k =
-      let first = earlier_starts rows' k.0 i k.2 in
-      let si : (row_at rows' i).start ≡ (row_at rows i).start = (same i bi).start in
-      let p = h.no_other k.0 k.1 (coloured rows' allowed' accepted' assigned' k.0 c (is_in accepted' k.0) refl fit' k.4) (omega (arith, first, si, bi.start)) in
-      let bj : Begun k.0 = record { inside = p.0; marked = p.1; start = p.2 } in
-      let e = earlier_before i k.0 bi bj k.2 in
-      (k.0, p.0, e, overlap_before t (row_at rows k.0) (row_at rows i) (row_at rows' k.0) (row_at rows' i) (same k.0 bj) (same i bi) (earlier_starts rows k.0 i e) bi.start k.3, sym (before k.0 bj e) ∙ k.4)
+  module _ (fit' : IsFirstFitAmong rows' allowed' accepted' assigned') where
+    taken_before : (i c : ℕ) → Begun i → ((j : ℕ) → Begun j → IsEarlier rows j i → Agrees j) → IsChannelTaken rows' assigned' i c → IsChannelTaken rows assigned i c
+    taken_before i c bi before k =
+        let first = earlier_starts rows' k.0 i k.2 in
+        let si : (row_at rows' i).start ≡ (row_at rows i).start = (same i bi).start in
+        let p = h.no_other k.0 k.1 (coloured rows' allowed' accepted' assigned' k.0 c (is_in accepted' k.0) refl fit' k.4) (omega (arith, first, si, bi.start)) in
+        let bj : Begun k.0 = record { inside = p.0; marked = p.1; start = p.2 } in
+        let e = earlier_before i k.0 bi bj k.2 in
+        (k.0, p.0, e, overlap_before t (row_at rows k.0) (row_at rows i) (row_at rows' k.0) (row_at rows' i) (same k.0 bj) (same i bi) (earlier_starts rows k.0 i e) bi.start k.3, sym (before k.0 bj e) ∙ k.4)
 
-  one_lowest : (i c c' : ℕ) → Begun i → ((j : ℕ) → Begun j → IsEarlier rows j i → Agrees j) → IsLowestFree rows (allowed i) assigned i c → IsLowestFree rows' (allowed' i) assigned' i c' → c' ≡ c
-  one_lowest i c c' bi before low low' =
-      let same_set : allowed' i ≡ allowed i = h.choices i bi.inside bi.marked bi.start in
-      elim (cases_lt c c') [
-        | inl less ↦ absurd (low.free (taken_before i c bi before (low'.lowest c less (ap (λ cs. has_channel cs c) same_set ∙ low.in_service))))
-        | inr le ↦ elim (cases_lt c' c) [
-          | inl less ↦ absurd (low'.free (taken_after i c' bi before (low.lowest c' less (ap (λ cs. has_channel cs c') (sym same_set) ∙ low'.in_service))))
-          | inr ge ↦ omega (arith, le, ge)
+    one_lowest : (i c c' : ℕ) → Begun i → ((j : ℕ) → Begun j → IsEarlier rows j i → Agrees j) → IsLowestFree rows (allowed i) assigned i c → IsLowestFree rows' (allowed' i) assigned' i c' → c' ≡ c
+    one_lowest i c c' bi before low low' =
+        let same_set : allowed' i ≡ allowed i = h.choices i bi.inside bi.marked bi.start in
+        elim (cases_lt c c') [
+          | inl less ↦ absurd (low.free (taken_before i c bi before (low'.lowest c less (ap (λ cs. has_channel cs c) same_set ∙ low.in_service))))
+          | inr le ↦ elim (cases_lt c' c) [
+            | inl less ↦ absurd (low'.free (taken_after i c' bi before (low.lowest c' less (ap (λ cs. has_channel cs c') (sym same_set) ∙ low'.in_service))))
+            | inr ge ↦ omega (arith, le, ge)
+          ]
         ]
-      ]
 
-  one_row : (i : ℕ) → Begun i → ((j : ℕ) → Begun j → IsEarlier rows j i → Agrees j) → Agrees i
-  one_row i bi before =
-      let g = fit.given i bi.inside bi.marked in
-      let g' = fit'.given i (omega (arith, bi.inside, h.longer)) (h.begun i bi.inside bi.marked bi.start).0 in
-      g'.1 ∙ ap Some (one_lowest i g.0 g'.0 bi before g.2 g'.2) ∙ sym g.1
+    one_row : (i : ℕ) → Begun i → ((j : ℕ) → Begun j → IsEarlier rows j i → Agrees j) → Agrees i
+    one_row i bi before =
+        let g = fit.given i bi.inside bi.marked in
+        let g' = fit'.given i (omega (arith, bi.inside, h.longer)) (h.begun i bi.inside bi.marked bi.start).0 in
+        g'.1 ∙ ap Some (one_lowest i g.0 g'.0 bi before g.2 g'.2) ∙ sym g.1
 
-  -- along the order: by starts, and at one start by rows
-  at_one_start : (s n i : ℕ) → ((j : ℕ) → Begun j → (row_at rows j).start < s → Agrees j) → Begun i → (row_at rows i).start ≡ s → i < n → Agrees i
-  at_one_start s zero i sooner bi at less = absurd (omega (arith, less))
-  at_one_start s (suc n) i sooner bi at less = elim (cases_lt i n) [
-    | inl lower ↦ at_one_start s n i sooner bi at lower
-    | inr last ↦ one_row i bi (λ j bj e. elim e [
-      | inl starts ↦ sooner j bj (omega (arith, starts, at))
-      | inr tie ↦ at_one_start s n j sooner bj (omega (arith, tie.0, at)) (omega (arith, tie.1, last, less))
-    ])
-  ]
+    -- along the order: by starts, and at one start by rows
+    at_one_start : (s n i : ℕ) → ((j : ℕ) → Begun j → (row_at rows j).start < s → Agrees j) → Begun i → (row_at rows i).start ≡ s → i < n → Agrees i
+    at_one_start s zero i sooner bi at less = absurd (omega (arith, less))
+    at_one_start s (suc n) i sooner bi at less = elim (cases_lt i n) [
+      | inl lower ↦ at_one_start s n i sooner bi at lower
+      | inr last ↦ one_row i bi (λ j bj e. elim e [
+        | inl starts ↦ sooner j bj (omega (arith, starts, at))
+        | inr tie ↦ at_one_start s n j sooner bj (omega (arith, tie.0, at)) (omega (arith, tie.1, last, less))
+      ])
+    ]
 
-  by_starts : (s i : ℕ) → Begun i → (row_at rows i).start < s → Agrees i
-  by_starts zero i bi less = absurd (omega (arith, less))
-  by_starts (suc s) i bi less = elim (cases_lt (row_at rows i).start s) [
-    | inl sooner ↦ by_starts s i bi sooner
-    | inr last ↦ at_one_start s (length rows) i (by_starts s) bi (omega (arith, last, less)) bi.inside
-  ]
+    by_starts : (s i : ℕ) → Begun i → (row_at rows i).start < s → Agrees i
+    by_starts zero i bi less = absurd (omega (arith, less))
+    by_starts (suc s) i bi less = elim (cases_lt (row_at rows i).start s) [
+      | inl sooner ↦ by_starts s i bi sooner
+      | inr last ↦ at_one_start s (length rows) i (by_starts s) bi (omega (arith, last, less)) bi.inside
+    ]
 
-  pub begun_stay : (i : ℕ) → i < length rows → is_in accepted i ≡ true → (row_at rows i).start ≤ t → channel_of assigned' i ≡ channel_of assigned i
-  begun_stay i lt is_marked by = by_starts ((row_at rows i).start + 1) i (record { inside = lt; marked = is_marked; start = by }) (omega arith)
+    all_stay : (i : ℕ) → i < length rows → is_in accepted i ≡ true → (row_at rows i).start ≤ t → channel_of assigned' i ≡ channel_of assigned i
+    all_stay i lt is_marked by = by_starts ((row_at rows i).start + 1) i (record { inside = lt; marked = is_marked; start = by }) (omega arith)
+
+pub begun_stay : (t : ℕ) (allowed allowed' : ℕ → List Bool) (rows : List Row) (accepted : List Bool) (assigned : List (Option ℕ)) (rows' : List Row) (accepted' : List Bool) (assigned' : List (Option ℕ)) → IsFirstFitAmong rows allowed accepted assigned → IsFirstFitAmong rows' allowed' accepted' assigned' → AreSameUpTo t rows accepted allowed rows' accepted' allowed' → (i : ℕ) → i < length rows → is_in accepted i ≡ true → (row_at rows i).start ≤ t → channel_of assigned' i ≡ channel_of assigned i
+begun_stay t allowed allowed' rows accepted assigned rows' accepted' assigned' fit fit' h = all_stay t allowed allowed' rows accepted assigned rows' accepted' assigned' fit h fit'

@@ -7,3 +7,5 @@ pub mod FirstFitStays
 pub mod FirstFitChanged
 pub mod SweepingAmong
 pub mod OutcomeAmong
+pub mod FirstFitBeside
+pub mod RoomBeside

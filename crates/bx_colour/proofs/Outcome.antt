@@ -41,7 +41,7 @@ some_free rows channels accepted order bookings is_order k here assigned until s
     let in_order : m.0 < length order = omega (arith, m.1) in
     (omega (arith, has_one assigned j c e, swept.one_each), subst (λ i. is_in accepted i ≡ true) m.2 (is_order.each m.0 in_order).passes)) in
     let run = and_from (is_in accepted next) (is_running (row_at rows next) moment) entry.passes (and_from _ _ (le-leb moment moment (omega arith)) (lt-ltb moment (row_at rows next).end (bookings.each next entry.within).in_order)) in
-    let many = one_too_many rows channels accepted assigned moment on_each only next entry.within (no_channel_yet rows channels accepted order bookings is_order k here assigned until swept) run in
+    let many = one_too_many rows channels accepted (channel_of assigned) moment on_each only next entry.within (no_channel_yet rows channels accepted order bookings is_order k here assigned until swept) run in
     omega (arith, many, fits.enough moment)
 
 module _ (rows : List Row) (channels accepted : List Bool) (order : List (ℕ × ℕ)) (is_order : IsOrder rows accepted order) (assigned : List (Option ℕ)) (until : List ℕ) (swept : IsSwept rows channels order (length order) assigned until) where

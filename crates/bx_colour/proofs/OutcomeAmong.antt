@@ -1,5 +1,5 @@
 -- What a swept list of rows says of the colouring, where each row has channels of its own to choose from.
-use Rattle.std.proofs.Common.{◌≡◌, ℕ, zero, suc, ◌<◌, ◌≤◌, Bool, true, false, List, length, get_or, replicate, Option, Some, None, is_some, unwrap_or, refl, sym, ◌∙◌, ap, subst, arith, inl, inr}
+use Rattle.std.proofs.Common.{◌≡◌, ◌≢◌, ℕ, zero, suc, ◌<◌, ◌≤◌, Bool, true, false, List, length, get_or, replicate, Option, Some, None, is_some, unwrap_or, refl, sym, ◌∙◌, ap, subst, arith, inl, inr}
 use Rattle.std.proofs.lemmas.Bool.{cases_lt}
 use Rattle.std.proofs.lemmas.List.{get_or_past, get_or-replicate, length-replicate}
 use Rattle.bx_base.specs.Bookings.{Row, row_at, AreBookings, Overlap, Carries}
@@ -120,26 +120,29 @@ module _ (rows : List Row) (allowed : ℕ → List Bool) (accepted : List Bool) 
   pub accepts_same : (i : ℕ) → is_accepted assigned i ≡ is_in accepted i
   accepts_same i = accepted_as i (is_in accepted i) refl
 
-  given_to : (i : ℕ) → is_accepted assigned i ≡ true → IsGiven rows (allowed i) assigned i
+  pub given_to : (i : ℕ) → is_accepted assigned i ≡ true → IsGiven rows (allowed i) assigned i
   given_to i a = let t = sym (accepts_same i) ∙ a in fit.given i (within i t) t
 
-  channel_is : (i c : ℕ) → channel_of assigned i ≡ Some c → channel_at assigned i ≡ c
+  pub channel_is : (i c : ℕ) → channel_of assigned i ≡ Some c → channel_at assigned i ≡ c
   channel_is i c e = ap (λ (o : Option ℕ). unwrap_or o 0) e
 
   -- two rows that overlap, one before the other, have different channels
   differ : (i j : ℕ) → j < length rows → IsEarlier rows j i → Overlap (row_at rows j) (row_at rows i) → (ci cj : ℕ) → channel_of assigned j ≡ Some cj → IsLowestFree rows (allowed i) assigned i ci → ci ≡ cj → ⊥
   differ i j h earlier overlap ci cj has low e = low.free (j, h, earlier, overlap, has ∙ ap Some (sym e))
 
+  pub kept_apart : (i j : ℕ) → i < j → j < length rows → is_accepted assigned i ≡ true → is_accepted assigned j ≡ true → Overlap (row_at rows i) (row_at rows j) → channel_at assigned i ≢ channel_at assigned j
+  kept_apart i j lt h a b overlap e =
+      let gi = given_to i a in
+      let gj = given_to j b in
+      let same : gi.0 ≡ gj.0 = sym (channel_is i gi.0 gi.1) ∙ (e ∙ channel_is j gj.0 gj.1) in
+      elim (cases_lt (row_at rows j).start (row_at rows i).start) [
+        | inl later ↦ differ i j h (inl later) (overlap.0, overlap.2, overlap.1) gi.0 gj.0 gj.1 gi.2 same
+        | inr sooner ↦ differ j i (omega arith) (elim (cases_lt (row_at rows i).start (row_at rows j).start) [ inl s ↦ inl s | inr s ↦ inr (omega (arith, sooner, s), lt) ]) overlap gj.0 gi.0 gi.1 gj.2 (sym same)
+      ]
+
   pub carries : (service : List Bool) → ((i c : ℕ) → has_channel (allowed i) c ≡ true → has_channel service c ≡ true) → Carries rows service (is_accepted assigned) (channel_at assigned)
   carries service inside =
       record {
         in_service = λ i h a. (let g = given_to i a in rw (channel_is i g.0 g.1) (inside i g.0 g.2.in_service));
-        apart = λ i j lt h a b overlap e.
-            let gi = given_to i a in
-            let gj = given_to j b in
-            let same : gi.0 ≡ gj.0 = sym (channel_is i gi.0 gi.1) ∙ (e ∙ channel_is j gj.0 gj.1) in
-            elim (cases_lt (row_at rows j).start (row_at rows i).start) [
-              | inl later ↦ differ i j h (inl later) (overlap.0, overlap.2, overlap.1) gi.0 gj.0 gj.1 gi.2 same
-              | inr sooner ↦ differ j i (omega arith) (elim (cases_lt (row_at rows i).start (row_at rows j).start) [ inl s ↦ inl s | inr s ↦ inr (omega (arith, sooner, s), lt) ]) overlap gj.0 gi.0 gi.1 gj.2 (sym same)
-            ];
+        apart = kept_apart;
       }

@@ -1,5 +1,6 @@
 //! Laws of first-fit colourings.
 
+ghost use Rattle.bx_colour.specs.Beside.{IsFirstFitBeside};
 ghost use Rattle.bx_colour.specs.ChangedRows.{IsBegunKept};
 ghost use Rattle.bx_colour.specs.LaterRows.{AreLaterRowsExtending};
 
@@ -13,4 +14,10 @@ pub fn later_rows_extend()
 /// each of them the channel that it had. So rows that start later may come, go and change, and what has begun may end later or earlier.
 pub fn changed_rows_stay()
     ensures { IsBegunKept }
+{}
+
+/// Where what has begun keeps the channel that first fit gave it, and what starts later is first fit among the channels that are left, the whole is
+/// first fit: each booking has the lowest of the channels that it had to choose from that no earlier overlapping one has.
+pub fn beside_is_first_fit()
+    ensures { IsFirstFitBeside }
 {}

@@ -20,6 +20,7 @@ use Rattle.bx_q931.specs.declared.channel_field.ChannelField.TheVariants.{Named,
 use Rattle.bx_base.specs.Bookings.{is_running}
 use Rattle.bx_channels.specs.Marks.{is_marked}
 use Rattle.bx_calls.specs.Said.{Said, said_under}
+use Rattle.bx_calls.specs.Shared.{cons_some}
 use Rattle.bx_calls.specs.Saying.{setup_of}
 use Rattle.bx_calls.specs.Sending.{Sent, Answered, reply_list}
 use Rattle.bx_calls.specs.PlainCalls.{PlainNetCall}
@@ -45,13 +46,14 @@ use Rattle.bx_day.specs.Run.{receive_from, receive_read, happens}
 use Rattle.bx_day.specs.Outages.{without_link_by, live_happens, live_day_after}
 use Rattle.bx_day.specs.Passing.{day_of}
 use Rattle.bx_day.specs.Changed.{was_never_live, past_or_planned, with_past, said_at_each}
-use Rattle.bx_day.proofs.Extended.{Rests, IsToCome, rests_unheld, none_held, second_still, say, silent, both, event_later, run_later}
 use Rattle.bx_day.proofs.Indices.{index_found, index_none, position_next}
 use Rattle.bx_day.proofs.Law.{in_same}
 use Rattle.bx_day.proofs.Once.{decide, each_at, none≢some}
 use Rattle.bx_day.proofs.Quiet.{late}
 use Rattle.bx_day.proofs.Receive.{OpenAt, open_parts, open_index, open_lowest}
+use Rattle.bx_day.proofs.Resting.{Rests, IsToCome, rests_unheld, none_held, second_still}
 use Rattle.bx_day.proofs.SlotLemmas.{some_is}
+use Rattle.bx_day.proofs.Staying.{event_later, run_later}
 use Rattle.bx_day.proofs.Tick.{with_standing, by_cases, offers, runs_at}
 
 -- ---- bookings of both plans
@@ -228,6 +230,13 @@ shared_before m link d (e ∷ es) (n ∷ ns) h = (one_before m link d e n h.0, s
 
 -- ---- a second before m, of a whole day
 
+abbrev say : Bool → Option Outgoing → List Outgoing → List Outgoing
+say b o rest = if b then cons_some o rest else rest
+
+silent : (b : Bool) (rest : List Outgoing) → say b None rest ≡ rest
+silent true rest = refl
+silent false rest = refl
+
 module _ (m : ℕ) (link : Link) (d : Day) (ns : List Entry) (before : AreShared m d.entries ns) (early : d.moment + 1 < m) where
   old_still : (e : Entry) → was_never_live (after_in link d e).standing ≡ true → second_in link d e ≡ stays e.standing
   old_still e idle = second_idle link e (d.moment + 1) (is_back d) (is_free d e.channel) e.standing idle
@@ -323,6 +332,10 @@ passed_onto m link d ns after early =
       sent = all_said m link d ns before early every_channel after;
       shared = before;
     }
+
+both : {X : Type 0} (b : Bool) (x y x' y' : X) (R : X → X → Type 0) → R x x' → R y y' → R (if b then x else y) (if b then x' else y')
+both true x y x' y' R f g = f
+both false x y x' y' R f g = g
 
 tick_onto : (m : ℕ) (d : Day) (ns : List Entry) → AreShared m (tick d).day.entries ns → (tick d).day.moment < m → Goes m ns d (tick d) (tick (onto ns d))
 tick_onto m d ns = both (nat_le 300000 d.moment) _ _ _ _ (λ (x x' : Sent Day). AreShared m x.day.entries ns → x.day.moment < m → Goes m ns d x x')

@@ -23,13 +23,12 @@ use Rattle.bx_day.specs.Reading.{IsExchange, Seated}
 use Rattle.bx_day.specs.Slots.{slot_at, AreSlots}
 use Rattle.bx_day.proofs.Changed.{IsAlike, IsShared, kept, idle_kept, alike_kept, holds_shared, past_size, at_past, beyond_past}
 use Rattle.bx_day.proofs.ChangedPlan.{shared_of, come_of, referred_size, referred_at, beyond_referred}
-use Rattle.bx_day.proofs.Extended.{IsToCome, rests_unheld}
-use Rattle.bx_day.proofs.ExtendedIndex.{pairs_from, not_back, waits_new}
 use Rattle.bx_day.proofs.Law.{IsFrame, frame_of, row_of_entry, reference_of_entry}
-use Rattle.bx_day.proofs.LiveTurns.{pairs_at}
-use Rattle.bx_day.proofs.Once.{each_at, none≢some}
-use Rattle.bx_day.proofs.OpeningDay.{opening_size, opening_at}
+use Rattle.bx_day.proofs.LiveTurns.{pairs_at, pairs_from}
+use Rattle.bx_day.proofs.Once.{each_at, none≢some, not_back}
+use Rattle.bx_day.proofs.OpeningDay.{opening_size, opening_at, waits_new}
 use Rattle.bx_day.proofs.Quiet.{all_at as all_from}
+use Rattle.bx_day.proofs.Resting.{IsToCome, rests_unheld}
 use Rattle.bx_day.proofs.SlotLemmas.{some_is, holds_parts}
 use Rattle.bx_day.proofs.Tick.{with_standing}
 use Rattle.bx_day.proofs.WaitingAnew.{earliest_waits}
@@ -130,6 +129,13 @@ live_shared m e n h lives = elim h [
 ]
 
 -- ---- the day
+
+pub changed_size : (d : Day) (rows : List Row) (assigned : List (Option ℕ)) → length d.entries ≤ length rows → length (changed rows assigned d).entries ≡ length rows
+changed_size d rows assigned few =
+    let planned = entries_from 1 rows assigned in
+    let room : length d.entries ≤ length planned = omega (arith, few, opening_size 1 rows assigned) in
+    let same = referred_size d.entries planned room in
+    past_size d.entries (with_references d.entries planned) (omega (arith, room, same)) ∙ same ∙ opening_size 1 rows assigned
 
 module _ (d : Day) (rows : List Row) (channels : List Bool) (assigned : List (Option ℕ)) (live waiting following : List (Option ℕ)) (bookings : AreBookings rows) (set : IsChannelSet channels) (carries : Carries rows channels (is_accepted assigned) (channel_at assigned)) (h : IsExchange d) (s : AreSlots d live waiting following) (x : AgreesWith d rows assigned) where
   abbrev planned : List Entry

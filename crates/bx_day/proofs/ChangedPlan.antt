@@ -2,7 +2,6 @@
 use Rattle.std.proofs.Common.{◌≡◌, ℕ, zero, suc, ◌+◌, ◌≤◌, ◌<◌, true, List, [], ◌∷◌, length, Option, Some, None, arith, refl, sym, subst, ap, ◌∙◌, inl, inr, slice_index_or}
 use Rattle.std.specs.List.{AllByRecursion}
 use Rattle.bx_base.specs.Bookings.{Row, row_at, AreBookings}
-use Rattle.bx_base.specs.Extending.{Extends}
 use Rattle.bx_calls.specs.Shared.{no_channel}
 use Rattle.bx_events.specs.Events.{LiveEvent}
 use Rattle.bx_day.specs.declared.entry.Entry.{Entry}
@@ -11,12 +10,12 @@ use Rattle.bx_day.specs.Outages.{live_day_after}
 use Rattle.bx_day.specs.Passing.{day_of}
 use Rattle.bx_day.specs.Changed.{was_never_live, with_past, referred, with_references, changed, said_at_each, IsAhead, AgreesAt, AgreesWith}
 use Rattle.bx_day.proofs.Changed.{IsShared, AreShared, onto, idle_kept, few_shared, GoesThere, run_onto}
-use Rattle.bx_day.proofs.Extended.{IsToCome, AreSeats, run_over, seat_at}
 use Rattle.bx_day.proofs.Law.{reference_of_entry}
-use Rattle.bx_day.proofs.LongerPlan.{opening_seats}
 use Rattle.bx_day.proofs.Once.{none≢some}
 use Rattle.bx_day.proofs.OpeningDay.{opening_size, opening_at}
+use Rattle.bx_day.proofs.Resting.{IsToCome}
 use Rattle.bx_day.proofs.SlotLemmas.{some_is}
+use Rattle.bx_day.proofs.Staying.{run_size, references_stay}
 
 -- ---- of lists, index by index
 
@@ -102,39 +101,22 @@ shared_of t k e b (Some c) order h = elim h [
 
 -- ---- the law
 
-few_seats : (m : ℕ) (es ns : List Entry) → AreSeats m es ns → length es ≤ length ns
-few_seats m [] ns h = omega arith
-few_seats m (e ∷ es) [] h = absurd h
-few_seats m (e ∷ es) (n ∷ ns) h = let r = few_seats m es ns h.1 in omega (arith, r)
-
-itself : (m : ℕ) (rows : List Row) (assigned : List (Option ℕ)) → Extends m rows assigned rows assigned
-itself m rows assigned = record {
-  longer = omega arith;
-  same = λ i lt. record { start = refl; end = refl; pay = refl; number = refl; inward = refl };
-  accepted = λ i lt. refl;
-  channels = λ i lt early. refl;
-  later = λ i low lt. absurd (omega (arith, low, lt));
-}
-
 -- of both plans, where the second agrees with the day of the first
 module _ (rows : List Row) (assigned : List (Option ℕ)) (rows' : List Row) (assigned' : List (Option ℕ)) (events : List LiveEvent) (bookings : AreBookings rows) (bookings' : AreBookings rows') where
-  abbrev now : Day
+  abbrev pub now : Day
   now = live_day_after events (opening rows assigned)
 
   abbrev old : List Entry
   old = entries_from 1 rows assigned
 
-  abbrev new : List Entry
+  abbrev pub new : List Entry
   new = entries_from 1 rows' assigned'
 
   -- references are the rows 1, 2, .. to the end
   reference_now : (i : ℕ) → i < length now.entries → (entry_at now.entries i).reference ≡ i + 1
   reference_now i lt =
-      let m = now.moment + 1 in
-      let seats = (run_over m events (opening rows assigned) old (opening_seats m rows assigned rows assigned bookings (itself m rows assigned)) (omega arith)).1 in
-      let few = few_seats m now.entries old seats in
-      let inside : i < length rows = omega (arith, few, lt, opening_size 1 rows assigned) in
-      sym (seat_at m now.entries old i seats lt).reference
+      let inside : i < length rows = omega (arith, run_size events (opening rows assigned), lt, opening_size 1 rows assigned) in
+      references_stay events (opening rows assigned) i
       ∙ ap (λ (e : Entry). e.reference) (opening_at 1 (i + 1) rows assigned i (let q : 1 + i ≡ i + 1 = omega arith in q) inside)
       ∙ reference_of_entry (i + 1) (row_at rows i) (slice_index_or assigned i None)
 
@@ -151,7 +133,7 @@ module _ (rows : List Row) (assigned : List (Option ℕ)) (rows' : List Row) (as
         let lt' : i < length rows' = omega (arith, lt, x.longer) in
         reference_now i lt ∙ sym (ap (λ (e : Entry). e.reference) (new_at i lt') ∙ reference_of_entry (i + 1) (row_at rows' i) (slice_index_or assigned' i None)))
 
-    shared_now : AreShared (now.moment + 1) now.entries new
+    pub shared_now : AreShared (now.moment + 1) now.entries new
     shared_now = shared_from (now.moment + 1) now.entries new fewer
         (λ i lt.
         let lt' : i < length rows' = omega (arith, lt, x.longer) in
@@ -165,7 +147,7 @@ module _ (rows : List Row) (assigned : List (Option ℕ)) (rows' : List Row) (as
     there : GoesThere (now.moment + 1) new events (opening rows assigned)
     there = run_onto (now.moment + 1) events (opening rows assigned) new shared_now (omega arith)
 
-    opening_onto : onto new (opening rows assigned) ≡ opening rows' assigned'
+    pub opening_onto : onto new (opening rows assigned) ≡ opening rows' assigned'
     opening_onto = ap (λ es. day_of 0 0 es no_channel) (idle_past old new (few_shared (now.moment + 1) old new there.shared) (opening_idle 1 rows assigned))
 
     pub changed_day : live_day_after events (opening rows' assigned') ≡ changed rows' assigned' now

@@ -28,11 +28,10 @@ use Rattle.bx_day.specs.Invariant.{EntryFits, StandingFits, OriginFits, Phase, R
 use Rattle.bx_day.specs.Passing.{day_of}
 use Rattle.bx_day.specs.Reading.{IsExchange, Seated}
 use Rattle.bx_day.specs.Restoring.{IsState}
-use Rattle.bx_day.proofs.ExtendedIndex.{pairs_from}
 use Rattle.bx_day.proofs.Law.{IsFrame, frame_of, row_of_entry}
-use Rattle.bx_day.proofs.LiveTurns.{pairs_at}
-use Rattle.bx_day.proofs.Once.{each_at}
-use Rattle.bx_day.proofs.OpeningDay.{opening_size, opening_at}
+use Rattle.bx_day.proofs.LiveTurns.{pairs_at, pairs_from}
+use Rattle.bx_day.proofs.Once.{each_at, not_back}
+use Rattle.bx_day.proofs.OpeningDay.{opening_size, opening_at, waits_new}
 use Rattle.bx_day.proofs.Passing.{refilled}
 use Rattle.bx_day.proofs.Quiet.{all_at as all_from}
 
@@ -188,18 +187,9 @@ new_idle : (k : ℕ) (b : Row) (a : Option ℕ) → is_live (entry_of k b a).sta
 new_idle k b None = refl
 new_idle k b (Some c) = refl
 
-new_waits : (k : ℕ) (b : Row) (a : Option ℕ) → is_refused (entry_of k b a).standing ≡ false → is_unoffered (entry_of k b a).standing ≡ true
-new_waits k b None h = absurd (true≢false h)
-new_waits k b (Some c) h = refl
-
 new_fits : (base k : ℕ) (b : Row) (a : Option ℕ) → b.start < b.end → EntryFits 0 (seat_new base (entry_of k b a))
 new_fits base k b None order = tt
 new_fits base k b (Some c) order = omega (arith, order)
-
-not_back : (a r : Bool) → a ≡ not r → r ≡ not a
-not_back true true h = absurd (true≢false h)
-not_back false false h = absurd (false≢true h)
-not_back a r h = refl
 
 decide_live : {P : Type 0} (b : Bool) → (b ≡ true → P) → (b ≡ false → P) → P
 decide_live true f g = f refl
@@ -378,7 +368,7 @@ module _ (base : ℕ) (d : Day) (rows : List Row) (channels : List Bool) (assign
             (λ idle. waits_or_live (entry_at left i).standing (goes_at i old) idle))
         | inr new ↦ (
             let is = past_at i new lt in
-            ap (λ (e : Entry). is_unoffered e.standing) is ∙ new_waits (i + 1) (row_at rows i) (slice_index_or assigned i None) (ap (λ (e : Entry). is_refused e.standing) (sym is) ∙ accepted))
+            ap (λ (e : Entry). is_unoffered e.standing) is ∙ waits_new (i + 1) (row_at rows i) (slice_index_or assigned i None) (ap (λ (e : Entry). is_refused e.standing) (sym is) ∙ accepted))
       ]
 
   pub state_over : IsState (handed_over base rows assigned d)

@@ -127,7 +127,7 @@ at_map_in link d es i = refl
 pub at_map : (d : Day) (es : List Entry) (i : ℕ) → entry_at (map (after_in Up d) es) i ≡ after_in Up d (entry_at es i)
 at_map d es i = at_map_in Up d es i
 
-at_set : (P : Entry → Type 0) (es : List Entry) (i k : ℕ) (y : Entry) → (P (entry_at es i) → P y) → P (entry_at es k) → P (entry_at (slice_set es i y) k)
+pub at_set : (P : Entry → Type 0) (es : List Entry) (i k : ℕ) (y : Entry) → (P (entry_at es i) → P y) → P (entry_at es k) → P (entry_at (slice_set es i y) k)
 at_set P [] i k y f p = p
 at_set P (e ∷ es) zero zero y f p = f p
 at_set P (e ∷ es) (suc i) (suc k) y f p = at_set P es i k y f p

@@ -30,9 +30,8 @@ pub mod TouchLemmas
 pub mod TouchSlots
 mod Outlasting
 mod WaitingAnew
-pub mod Extended
-pub mod LongerPlan
-pub mod ExtendedIndex
+pub mod Resting
+pub mod Staying
 pub mod Changed
 pub mod ChangedPlan
 pub mod ChangedIndex

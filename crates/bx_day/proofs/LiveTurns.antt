@@ -10,6 +10,7 @@ use Rattle.bx_day.specs.declared.entry.Entry.{Entry}
 use Rattle.bx_day.specs.declared.entry.Moved.{Moved}
 use Rattle.bx_day.proofs.Law.{at_map_in}
 use Rattle.bx_day.proofs.Once.{decide, each_at}
+use Rattle.bx_day.proofs.Quiet.{all_at as all_from}
 use Rattle.bx_day.proofs.SlotLemmas.{some_is, holds_parts, holds_from, waits_parts}
 use Rattle.bx_day.proofs.Tick.{pairs_apart, all_hold}
 use Rattle.bx_day.proofs.Turns.{After, second_seats, IsNone, IsTurn, others_stay}
@@ -23,6 +24,10 @@ pairs_at R (e ∷ es) zero zero lt inside h = absurd (omega (arith, lt))
 pairs_at R (e ∷ es) zero (suc j) lt inside h = each_at (R e) es j (omega (arith, inside)) h.0
 pairs_at R (e ∷ es) (suc i) zero lt inside h = absurd (omega (arith, lt))
 pairs_at R (e ∷ es) (suc i) (suc j) lt inside h = pairs_at R es i j (omega (arith, lt)) (omega (arith, inside)) h.1
+
+pub pairs_from : (R : Entry → Entry → Type 0) (es : List Entry) → ((i j : ℕ) → i < j → j < length es → R (entry_at es i) (entry_at es j)) → Pairs R es
+pairs_from R [] h = tt
+pairs_from R (e ∷ es) h = (all_from (R e) es (λ j lt. h 0 (suc j) (omega arith) (omega (arith, lt))), pairs_from R es (λ i j less lt. h (suc i) (suc j) (omega (arith, less)) (omega (arith, lt))))
 
 -- no channel has two live bookings
 pub live_once : (es : List Entry) (c i j : ℕ) → Pairs Apart es → i < length es → j < length es → holds c (entry_at es i) ≡ true → holds c (entry_at es j) ≡ true → i ≡ j

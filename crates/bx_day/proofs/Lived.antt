@@ -38,9 +38,9 @@ use Rattle.bx_day.specs.Ticks.{waits, second_by, after_in}
 use Rattle.bx_day.specs.Receipts.{names, opens, lowest_open, hears, takes_call, takes_or, takes_preferred, called_on, called, stray, received_at}
 use Rattle.bx_day.specs.Run.{receive_from, receive_read}
 use Rattle.bx_day.specs.Outages.{live_happens, live_day_after}
-use Rattle.bx_day.proofs.Extended.{Rests, second_still}
 use Rattle.bx_day.proofs.Law.{RunFits, live_fits, all_update, opening_fits, opening_framed, opening_placed}
 use Rattle.bx_day.proofs.Receive.{OpenAt, open_parts, open_index, open_lowest, all_at}
+use Rattle.bx_day.proofs.Resting.{Rests, second_still}
 use Rattle.bx_day.proofs.Tick.{with_standing, by_cases, offers, runs_at}
 
 -- a booking at moment t

@@ -1,5 +1,5 @@
 -- The entries of the opening day, one after another.
-use Rattle.std.proofs.Common.{◌≡◌, ℕ, ◌+◌, ◌≤◌, ◌<◌, true, Bool, List, [], ◌∷◌, length, Option, Some, None, arith, refl, sym, subst, ap, ◌∙◌, suc, zero, slice_index_or, unwrap_or, is_some, take, ◌++◌}
+use Rattle.std.proofs.Common.{◌≡◌, ℕ, ◌+◌, ◌≤◌, ◌<◌, true, false, Bool, List, [], ◌∷◌, length, Option, Some, None, arith, refl, sym, subst, ap, ◌∙◌, suc, zero, slice_index_or, unwrap_or, is_some, take, ◌++◌}
 use Rattle.std.specs.List.{AllByRecursion}
 use Rattle.std.proofs.Math.Seq.{take-suc, take_all}
 use Rattle.std.proofs.lemmas.Bool.{true≢false}
@@ -7,7 +7,8 @@ use Rattle.bx_base.specs.Bookings.{Row, row_at, AreBookings, Carries}
 use Rattle.bx_channels.specs.ChannelNumbers.{IsChannel}
 use Rattle.bx_base.specs.Channels.{IsChannelSet, has_channel}
 use Rattle.bx_base.specs.Plans.{is_accepted, channel_at}
-use Rattle.bx_day.specs.Day.{entries_from, entry_at, entry_of, opening, no_entry}
+use Rattle.bx_day.specs.Day.{entries_from, entry_at, entry_of, is_unoffered, opening, no_entry}
+use Rattle.bx_day.specs.Invariant.{is_refused}
 use Rattle.bx_day.specs.Reading.{IsExchange, IsNumbered, Seated}
 use Rattle.bx_day.specs.declared.entry.Entry.{Entry}
 use Rattle.bx_day.proofs.Law.{opening_fits, row_of_entry}
@@ -49,6 +50,11 @@ opening_numbered rows assigned i lt =
     let inside : i < length rows = omega (arith, lt, opening_size 1 rows assigned) in
     let place : 1 + i ≡ i + 1 = omega arith in
     ap (λ (e : Entry). e.row) (opening_at 1 (i + 1) rows assigned i place inside) ∙ row_of_entry (i + 1) (row_at rows i) (slice_index_or assigned i None)
+
+-- what is accepted waits
+pub waits_new : (k : ℕ) (b : Row) (a : Option ℕ) → is_refused (entry_of k b a).standing ≡ false → is_unoffered (entry_of k b a).standing ≡ true
+waits_new k b None h = absurd (true≢false h)
+waits_new k b (Some c) h = refl
 
 pub opening_is : (rows : List Row) (channels : List Bool) (assigned : List (Option ℕ)) → AreBookings rows → IsChannelSet channels → Carries rows channels (is_accepted assigned) (channel_at assigned) → IsExchange (opening rows assigned)
 opening_is rows channels assigned b set carries = record {

@@ -18,8 +18,6 @@ pub mod Passing
 pub mod SlotSteps
 pub mod Course
 pub mod Outlasting
-pub mod Extended
-pub mod Keeping
 pub mod Changed
 pub mod Changing
 pub mod Handing

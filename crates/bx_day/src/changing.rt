@@ -4,19 +4,30 @@ ghost use Rattle.std.specs.Prelude.{◌≡◌, ◌≤◌, ◌<◌, ◌↔◌, �
 ghost use Rattle.bx_base.specs.Bookings.{Carries, row_at};
 ghost use Rattle.bx_base.specs.Plans.{is_accepted, channel_at};
 ghost use Rattle.bx_day.specs.Day.{entries_from, entry_at};
-ghost use Rattle.bx_day.specs.Changed.{was_never_live, past_or_planned, with_past, with_references, changed, EndsAlike, IsOverBy, HasBegunAs, IsAhead, AgreesAt, AreReferredByRow, AgreesWith};
+ghost use Rattle.bx_day.specs.Changed.{was_never_live, past_or_planned, with_past, with_references, changed, EndsAlike, HasBegunAs, IsAhead, AgreesAt, AreReferredByRow, AgreesWith};
 ghost use Rattle.bx_day.specs.Changing.{changed_to};
 ghost use Rattle.bx_day.specs.Changing.{AgreeInPlace, AreAheadFrom};
 
 use crate::entry::{Entry, Standing};
 use crate::exchange::Exchange;
-use crate::extending::NoExtension;
-use crate::linking::{is_refused, linked};
+use crate::linking::linked;
 use crate::opening::entries;
 use crate::outages::first_waiting;
 use bx_base::{Booking, Plan};
 use bx_channels::Channel;
 use std::alloc::{AllocError, Global};
+use thiserror::Error;
+
+/// Why a day does not go on with a plan.
+#[derive(Clone, Copy, Debug, PartialEq, Eq, Error)]
+pub enum CannotGoOn {
+    /// The plan does not agree with the day so far.
+    #[error("OtherPlan")]
+    OtherPlan,
+    /// Memory ran out.
+    #[error("Memory")]
+    Memory,
+}
 
 impl Exchange {
     /// Goes on with another plan, whose channels carry its accepted bookings, and which agrees with the day so far: what has become of
@@ -26,25 +37,25 @@ impl Exchange {
     /// (`hand_over`), which has others, gets none. The day is the one that the plan would have after the same events
     /// (`laws::day_of_a_changed_plan` of `bx_sales`). `OtherPlan`, which is tested first, where the plan does not agree with the day.
     /// `Memory` where memory runs out. A fault changes nothing. It looks at each booking once and sorts them by their starts.
-    pub fn go_on(&mut self, alloc: Global, plan: &Plan) -> Result<(), NoExtension>
+    pub fn go_on(&mut self, alloc: Global, plan: &Plan) -> Result<(), CannotGoOn>
         requires { Carries plan.now.bookings plan.now.channels (is_accepted plan.now.assigned.items) (channel_at plan.now.assigned.items) }
         ensures ok { OnOk result (self.new ≡ changed plan.now.bookings plan.now.assigned.items self.old) }
         ensures agrees { OnOk result (AgreesWith self.old plan.now.bookings plan.now.assigned.items) }
         ensures err { OnErr result (self.new ≡ self.old) }
-        ensures other { (result ≡ Err NoExtension.OtherPlan) ↔ (¬ AgreesWith self.old plan.now.bookings plan.now.assigned.items) }
+        ensures other { (result ≡ Err CannotGoOn.OtherPlan) ↔ (¬ AgreesWith self.old plan.now.bookings plan.now.assigned.items) }
     {
         let moment = self.moment();
         if !do_agree(&self.entries, plan, moment) || !are_ahead(plan, self.entries.len(), moment) {
-            return Err(NoExtension::OtherPlan);
+            return Err(CannotGoOn::OtherPlan);
         }
         // Read for the prover alone, which learns a limit from it.
         let _rows = plan.bookings.len();
         let _channels = plan.channels.count();
         let Ok(entries) = with_past(alloc, &self.entries, plan) else {
-            return Err(NoExtension::Memory);
+            return Err(CannotGoOn::Memory);
         };
         let Ok(links) = linked(alloc, &entries) else {
-            return Err(NoExtension::Memory);
+            return Err(CannotGoOn::Memory);
         };
         self.waiting = first_waiting(&entries);
         self.entries = entries;
@@ -166,7 +177,7 @@ fn has_begun_as(entry: &Entry, booking: &Booking, channel: Option<Channel>, mome
     let Some(channel) = channel else {
         return false;
     };
-    if is_refused(entry.standing) || channel.number() != entry.channel {
+    if entry.standing.is_refused() || channel.number() != entry.channel {
         return false;
     }
     if booking.start() != entry.booking.start()
@@ -176,7 +187,7 @@ fn has_begun_as(entry: &Entry, booking: &Booking, channel: Option<Channel>, mome
         return false;
     }
     ends_alike(moment, entry.booking.end(), booking.end())
-        && is_over_by(entry.standing, booking.end())
+        && entry.standing.is_over_by(booking.end())
 }
 
 /// Whether both ends are the same, or yet to come at this moment.
@@ -184,16 +195,6 @@ fn ends_alike(moment: u32, before: u32, after: u32) -> bool
     ensures { IsTrue result ↔ EndsAlike moment before after }
 {
     after == before || (moment < before && moment < after)
-}
-
-/// Whether a call that is over was so by then.
-fn is_over_by(standing: Standing, end: u32) -> bool
-    ensures { IsTrue result ↔ IsOverBy standing end }
-{
-    match standing {
-        Standing::Carried { until, .. } => until <= end,
-        _ => true,
-    }
 }
 
 /// Whether nothing becomes of any booking of the plan from a place on by this moment.

@@ -1,5 +1,10 @@
 //! What has become of a booking.
 
+ghost use Rattle.std.specs.Prelude.{◌≡◌, ◌↔◌, IsTrue};
+ghost use Rattle.bx_day.specs.Changed.{IsOverBy};
+ghost use Rattle.bx_day.specs.Day.{is_live, is_unoffered};
+ghost use Rattle.bx_day.specs.Invariant.{is_refused};
+
 use bx_base::Booking;
 use bx_calls::NetCall;
 use bx_events::Rules;
@@ -28,6 +33,39 @@ pub enum Standing {
     Unanswered,
     /// It was never live, and its end has come.
     Missed,
+}
+
+impl Standing {
+    /// Whether the plan does not accept it.
+    pub fn is_refused(self) -> bool
+        ensures { result ≡ is_refused self }
+    {
+        matches!(self, Standing::Refused)
+    }
+
+    /// Whether it waits for its start, or for its channel.
+    pub fn is_waiting(self) -> bool
+        ensures { result ≡ is_unoffered self }
+    {
+        matches!(self, Standing::Unoffered)
+    }
+
+    /// Whether a call of it is live.
+    pub fn is_live(self) -> bool
+        ensures { result ≡ is_live self }
+    {
+        matches!(self, Standing::OnCall { .. })
+    }
+
+    /// Whether its call, if that is over, was so by this moment.
+    pub fn is_over_by(self, end: u32) -> bool
+        ensures { IsTrue result ↔ IsOverBy self end }
+    {
+        match self {
+            Standing::Carried { until, .. } => until <= end,
+            _ => true,
+        }
+    }
 }
 
 /// A booking with its row, its channel and the reference of its call where the exchange begins that, and what has become of it. The

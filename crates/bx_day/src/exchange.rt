@@ -7,6 +7,7 @@ ghost use Rattle.bx_base.specs.Plans.{is_accepted, channel_at};
 ghost use Rattle.bx_channels.specs.Marks.{is_marked};
 ghost use Rattle.bx_day.specs.Day.{opening, holds};
 ghost use Rattle.bx_day.specs.Reading.{IsExchange, on_channel, outcome_at};
+ghost use Rattle.bx_day.specs.Restoring.{IsState};
 
 use crate::entry::{Entry, Standing};
 use crate::linking::linked;
@@ -75,10 +76,11 @@ impl Exchange {
         })
     }
 
-    /// The moment: how many ticks there were, 0 to 300,000.
+    /// The moment: how many ticks there were, 0 to 300,000. Its clauses tell what an exchange keeps true of its day.
     pub fn moment(&self) -> u32
         ensures value { result ≡ self.now.moment }
         ensures day { IsExchange self.now }
+        ensures state { IsState self.now }
     {
         self.moment
     }

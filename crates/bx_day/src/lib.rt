@@ -8,7 +8,6 @@ mod changing;
 mod end;
 mod entry;
 mod exchange;
-mod extending;
 pub mod handing;
 pub mod laws;
 mod linking;
@@ -24,7 +23,7 @@ mod scheduling;
 mod settling;
 mod ticking;
 
+pub use changing::CannotGoOn;
 pub use entry::{Activity, Entry, Standing};
 pub use exchange::Exchange;
-pub use extending::NoExtension;
-pub use outcome::Outcome;
+pub use outcome::{GivenUp, Outcome};

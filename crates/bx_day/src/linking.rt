@@ -4,11 +4,11 @@ ghost use Rattle.std.specs.Prelude.{◌≡◌, ◌<◌, ◌≤◌, ℕ, IfOk, le
 ghost use Rattle.std.specs.List.{AllByRecursion};
 ghost use Rattle.bx_base.specs.declared.bookings.TheConstants.{MAX_BOOKINGS};
 ghost use Rattle.bx_day.specs.Day.{entry_at};
-ghost use Rattle.bx_day.specs.Invariant.{Pairs, Apart, is_refused};
+ghost use Rattle.bx_day.specs.Invariant.{Pairs, Apart};
 ghost use Rattle.bx_day.specs.Reading.{Seated};
 ghost use Rattle.bx_day.specs.Linking.{AreStarts, AreByStart, AreLinks};
 
-use crate::entry::{Entry, Standing};
+use crate::entry::Entry;
 use std::alloc::{AllocError, Global};
 
 /// The first booking of each channel, and for each booking the next one of its channel, by their indices.
@@ -57,18 +57,9 @@ fn starts(alloc: Global, entries: &[Entry]) -> Result<Vec<(u32, u16)>, AllocErro
     let mut order = Vec::new(alloc);
     for index in 0..entries.len() as u16 {
         let entry = entries[index as usize];
-        if !is_refused(entry.standing) {
+        if !entry.standing.is_refused() {
             order.push((entry.booking.start(), index))?;
         }
     }
     Ok(order)
-}
-
-pub(crate) fn is_refused(standing: Standing) -> bool
-    ensures { result ≡ is_refused standing }
-{
-    match standing {
-        Standing::Refused => true,
-        _ => false,
-    }
 }

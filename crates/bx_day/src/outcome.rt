@@ -22,6 +22,15 @@ pub enum Outcome {
     Missed,
 }
 
+/// How a booking that the plan had accepted was given up, as the log of its day tells it.
+#[derive(Clone, Copy, Debug, PartialEq, Eq)]
+pub enum GivenUp {
+    /// Its customer cancelled it.
+    Cancelled,
+    /// Its channel was lost, and none was left for it.
+    Dropped,
+}
+
 /// The outcome of a booking of which this has become.
 pub(crate) fn outcome_from(standing: Standing) -> Outcome
     ensures { result ≡ outcome_of standing }

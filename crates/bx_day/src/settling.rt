@@ -4,7 +4,7 @@ ghost use Rattle.std.specs.Prelude.{◌≡◌, ◌<◌, ℕ, Some, length};
 ghost use Rattle.bx_day.specs.Slots.{slot_at};
 ghost use Rattle.bx_day.specs.SlotSteps.{SettlesSlots, follower, live_slot_of, waiting_of, is_live_at, is_waiting_at, IsInside};
 
-use crate::entry::{Entry, Standing};
+use crate::entry::Entry;
 use bx_events::LAST_MOMENT;
 
 /// Brings the slots up to date after a second. What was live, what waited first on a channel and what comes after
@@ -100,10 +100,7 @@ fn is_live_at(entries: &[Entry], slot: Option<u16>) -> bool
     let Some(index) = slot else {
         return false;
     };
-    match entries[index as usize].standing {
-        Standing::OnCall { .. } => true,
-        _ => false,
-    }
+    entries[index as usize].standing.is_live()
 }
 
 fn is_waiting_at(entries: &[Entry], slot: Option<u16>) -> bool
@@ -113,8 +110,5 @@ fn is_waiting_at(entries: &[Entry], slot: Option<u16>) -> bool
     let Some(index) = slot else {
         return false;
     };
-    match entries[index as usize].standing {
-        Standing::Unoffered => true,
-        _ => false,
-    }
+    entries[index as usize].standing.is_waiting()
 }

@@ -9,7 +9,7 @@ ghost use Rattle.bx_chart.specs.Bars.{lane_of};
 ghost use Rattle.bx_day_chart.specs.Calls.{bar_in, box, box_place, call_at, call_of, carried_box, title_of};
 
 use crate::marks::{Edges, add_mark};
-use crate::standings::{add_told, carried_of, is_accepted, look_of};
+use crate::standings::{add_told, carried_of, look_of};
 use bx_base::{Booking, ChannelSet};
 use bx_calendar::Clock;
 use bx_channels::Channel;
@@ -151,7 +151,7 @@ fn add_call(
     requires { Seated entry.now }
     ensures { OnOk result (picture.new.text.items ≡ picture.old.text.items ++ call_at (option_copied clock.entry) channels.now now entry.now) }
 {
-    if !is_accepted(&entry.standing) {
+    if entry.standing.is_refused() {
         return Ok(());
     }
     let lane = lane_in(channels, entry);

@@ -4,7 +4,6 @@ ghost use Rattle.std.specs.Prelude.{◌≡◌, ◌≤◌, ◌==◌, ◌&&◌, le
 ghost use Rattle.bx_base.specs.declared.bookings.TheConstants.{MAX_BOOKINGS};
 ghost use Rattle.bx_day_chart.specs.Counting.{has_become, fate_count_of, is_day_over, fate_pay_of};
 
-use crate::standings::is_accepted;
 use bx_day::{Entry, Exchange, Standing};
 
 /// What may have become of a booking.
@@ -23,9 +22,9 @@ fn has_become(fate: Fate, standing: &Standing) -> bool
     ensures { result ≡ has_become fate standing.now }
 {
     match fate {
-        Fate::Accepted => is_accepted(standing),
-        Fate::Waiting => matches!(standing, Standing::Unoffered),
-        Fate::Live => matches!(standing, Standing::OnCall { .. }),
+        Fate::Accepted => !standing.is_refused(),
+        Fate::Waiting => standing.is_waiting(),
+        Fate::Live => standing.is_live(),
         Fate::Carried => matches!(standing, Standing::Carried { .. }),
         Fate::Unanswered => matches!(standing, Standing::Unanswered),
         Fate::Missed => matches!(standing, Standing::Missed),

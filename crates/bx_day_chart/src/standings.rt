@@ -1,7 +1,6 @@
 //! What became of a booking, as a picture tells it.
 
 ghost use Rattle.std.specs.Prelude.{◌≡◌, ◌++◌, OnOk, option_copied};
-ghost use Rattle.bx_day.specs.Invariant.{stands_accepted};
 ghost use Rattle.bx_day_chart.specs.Standings.{carried_of, carried_words, look_of, standing_words, fate_words_of};
 
 use crate::outages::add_span;
@@ -23,13 +22,6 @@ pub(crate) fn carried_of(standing: &Standing, now: u32) -> Option<(u32, u32)>
         },
         _ => None,
     }
-}
-
-/// Whether the plan accepts the booking of which this has become.
-pub(crate) fn is_accepted(standing: &Standing) -> bool
-    ensures { result ≡ stands_accepted standing.now }
-{
-    !matches!(standing, Standing::Refused)
 }
 
 /// How its bar looks besides the bar of a plan.

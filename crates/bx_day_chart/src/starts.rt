@@ -7,7 +7,6 @@ ghost use Rattle.bx_day.specs.Reading.{Seated};
 ghost use Rattle.bx_day_chart.specs.Starts.{start_at, start_line, starts};
 
 use crate::calls::lane_in;
-use crate::standings::is_accepted;
 use bx_base::ChannelSet;
 use bx_chart::{LANE, Picture, Sheet, TOP, add_tenths};
 use bx_day::Entry;
@@ -34,7 +33,7 @@ fn add_start(
     requires { Seated entry.now }
     ensures { OnOk result (picture.new.text.items ≡ picture.old.text.items ++ start_at (room sheet.now) channels.now entry.now) }
 {
-    if !is_accepted(&entry.standing) {
+    if entry.standing.is_refused() {
         return Ok(());
     }
     let lane = lane_in(channels, entry);

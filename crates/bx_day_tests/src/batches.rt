@@ -18,8 +18,6 @@ const FULL: Answer = Answer::Refused(NoSale::Full);
 
 const NO_CHANNEL: Answer = Answer::Refused(NoSale::NoChannel);
 
-const OTHER: Answer = Answer::Refused(NoSale::OtherChannels);
-
 /// A booking that is asked for, by its start and its end in seconds, its pay, and whether it is marked as must.
 type Asked = (u32, u32, u64, bool);
 
@@ -131,12 +129,12 @@ static BATCHES: [Batch; 15] = [
         told: &[NO_CHANNEL],
     },
     Batch {
-        name: "a call that is up would get another channel",
+        name: "a plan that is not first fit is sold on beside the call that is up",
         morning: &[(1, 30, 2, false)],
         channels: &[1, 2],
         moment: 2,
         asked: &[(10, 20, 1, false), (2, 9, 1, false)],
-        told: &[OTHER, LATE],
+        told: &[YES, LATE],
     },
     Batch {
         name: "it fits, though no channel is free for all of it",

@@ -1,7 +1,7 @@
 //! Days of few bookings, and what is told at their ends.
 
 use crate::steps::{Step, first_wrong};
-use bx_day::Exchange;
+use bx_day::{Exchange, GivenUp};
 use bx_devices::Watched;
 use bx_worked_days::{Row, exchange_of};
 use std::alloc::Global;
@@ -15,11 +15,21 @@ pub(crate) struct Day<'a> {
     pub(crate) told: &'a str,
 }
 
-/// Whether just this is told of the day.
-pub(crate) fn tells(alloc: Global, exchange: &Exchange, text: &str) -> bool {
+/// Whether just this is told of the day, where these of its rows were given up.
+pub(crate) fn tells_of(
+    alloc: Global,
+    exchange: &Exchange,
+    given_up: &[Option<GivenUp>],
+    text: &str,
+) -> bool {
     let mut writer = Watched::new(Vec::new(alloc));
-    let written = exchange.write_outcomes(&mut writer).is_ok();
+    let written = exchange.write_outcomes(given_up, &mut writer).is_ok();
     written && writer.into_inner().as_slice() == text.as_bytes()
+}
+
+/// The same where none was.
+pub(crate) fn tells(alloc: Global, exchange: &Exchange, text: &str) -> bool {
+    tells_of(alloc, exchange, &[], text)
 }
 
 /// Runs a day, and refuses one that goes otherwise.

@@ -30,6 +30,8 @@ mod far_octets;
 #[cfg(test)]
 mod far_outages;
 #[cfg(test)]
+mod given_up_rows;
+#[cfg(test)]
 mod handed_days;
 #[cfg(test)]
 mod hostile_days;
@@ -45,6 +47,8 @@ mod hostile_far_end;
 mod hostile_messages;
 #[cfg(test)]
 mod hostile_octets;
+#[cfg(test)]
+mod lost_channels;
 #[cfg(test)]
 mod lost_messages;
 #[cfg(test)]

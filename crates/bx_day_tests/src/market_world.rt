@@ -106,6 +106,10 @@ impl Market for MarketWorld {
         self.changed = Some(answer);
     }
 
+    fn lost(&mut self, _exchange: &Exchange) {}
+
+    fn moved(&mut self, _exchange: &Exchange, _is_whole: bool) {}
+
     ghost dealt_by = { λ s t acts p. tt };
 
     ghost dealt_more = { λ s t u xs ys p q. tt };

@@ -15,7 +15,7 @@ static TEXT: &str = "1 waiting\n2 waiting\nmaintenance none\n";
 /// prefix of the text, and is faulted where that is not all.
 fn writes_prefix(alloc: Global, exchange: &Exchange, text: &[u8], calls: u32) -> bool {
     let mut writer = Watched::new(Failing::new(Vec::new(alloc), calls, 1));
-    let whole = exchange.write_outcomes(&mut writer).is_ok();
+    let whole = exchange.write_outcomes(&[], &mut writer).is_ok();
     let faulted = writer.faulted();
     let octets = writer.into_inner().into_inner();
     let is_prefix = octets.len() == calls as usize && text.starts_with(octets.as_slice());
@@ -31,7 +31,7 @@ fn failing_writers(rt: HostRuntime) -> Result<(), Fail> {
     }
     let mut none = Watched::new(Failing::new(Vec::new(rt.alloc()), 99, 0));
     assert!(rt;
-        exchange.write_outcomes(&mut none).is_err() && none.faulted(),
+        exchange.write_outcomes(&[], &mut none).is_err() && none.faulted(),
         "one that takes none"
     );
     Ok(())

@@ -12,7 +12,7 @@ use Rattle.bx_journal.specs.declared.version.Version.{Version}
 use Rattle.bx_journal.specs.Events.{IsEventIn, logged_event}
 use Rattle.bx_journal.specs.Lines.{line_ended}
 use Rattle.bx_events.specs.declared.amendment.Amendment.{Amendment}
-use Rattle.bx_events.specs.declared.amendment.Amendment.TheVariants.{Sold, Cancelled, Changed}
+use Rattle.bx_events.specs.declared.amendment.Amendment.TheVariants.{Sold, Cancelled, Changed, SoldByRulesTwo, Delayed, Dropped, Out}
 use Rattle.bx_journal.specs.Text.{amendment_word, line_of}
 use Rattle.bx_journal.specs.Reading.{event_on}
 use Rattle.bx_journal.specs.Taking.{Takes, TakesLine, TakesEvents, EventsEnd, EventsStop, EventsBreak, EndsInLine, Stops, lines_text}
@@ -84,6 +84,10 @@ word_short : (kind : Amendment) → length (amendment_word kind) ≤ 10
 word_short Sold = omega arith
 word_short Cancelled = omega arith
 word_short Changed = omega arith
+word_short SoldByRulesTwo = omega arith
+word_short Delayed = omega arith
+word_short Dropped = omega arith
+word_short Out = omega arith
 
 -- a line of more octets than any that is right has no event
 short : (v : Version) (e : LiveEvent) → IsEventIn v e → length (line_of e) ≤ 526

@@ -1,6 +1,6 @@
 -- The text of events is read as these events, whatever prefix of a line stands after it.
 use Rattle.bx_events.specs.declared.amendment.Amendment.{Amendment}
-use Rattle.bx_events.specs.declared.amendment.Amendment.TheVariants.{Sold, Cancelled, Changed}
+use Rattle.bx_events.specs.declared.amendment.Amendment.TheVariants.{Sold, Cancelled, Changed, SoldByRulesTwo, Delayed, Dropped, Out}
 use Rattle.bx_events.specs.declared.rules.Rules.TheVariants.{Two, Three}
 use Rattle.std.proofs.Common.{◌≡◌, ◌==◌, ◌≤◌, nat_le, ℕ, ◌+◌, Bool, true, false, cond, arith, Option, drop, List, [], ◌∷◌, ◌++◌, length, map, Some, Result, Ok, refl, ap, sym, ◌∙◌, subst}
 use Rattle.std.specs.List.{flat_map, list_all}
@@ -38,6 +38,10 @@ amended_without_lf : (kind : Amendment) (line : List ℕ) → HasNoLf line → H
 amended_without_lf Sold line none = (refl, (refl, (refl, (refl, (refl, none)))))
 amended_without_lf Cancelled line none = (refl, (refl, (refl, (refl, (refl, (refl, (refl, (refl, (refl, (refl, none))))))))))
 amended_without_lf Changed line none = (refl, (refl, (refl, (refl, (refl, (refl, (refl, (refl, none))))))))
+amended_without_lf SoldByRulesTwo line none = (refl, (refl, (refl, (refl, (refl, none)))))
+amended_without_lf Delayed line none = (refl, (refl, (refl, (refl, (refl, (refl, (refl, (refl, none))))))))
+amended_without_lf Dropped line none = (refl, (refl, (refl, (refl, (refl, (refl, (refl, (refl, none))))))))
+amended_without_lf Out line none = (refl, (refl, (refl, (refl, none))))
 
 pub line_without_lf : (v : Version) (e : LiveEvent) → IsEventIn v e → HasNoLf (line_of e)
 line_without_lf v (OnLink Tick) is = (refl, (refl, (refl, (refl, tt))))
@@ -66,9 +70,13 @@ event_read v (OnLink (Receive octets)) is =
     rw (le-leb (length (hex_of 65 octets)) 520 (omega (arith, hex_length 65 octets, is.1.1)), octets_read 65 (omega arith) octets is.0, is.1.0) refl
 event_read v (WithoutLink Two) is = rw (is.1) refl
 event_read v (WithoutLink Three) is = rw (is.1) refl
-event_read v (Amended Sold line) is = rw (le-leb (length line) 200 is.1.1.0, is.1.1.1) refl
+event_read v (Amended Sold line) is = rw (is.1.0, le-leb (length line) 200 is.1.1.0, is.1.1.1) refl
 event_read v (Amended Cancelled line) is = rw (is.1.0, le-leb (length line) 200 is.1.1.0, is.1.1.1) refl
 event_read v (Amended Changed line) is = rw (is.1.0, le-leb (length line) 200 is.1.1.0, is.1.1.1) refl
+event_read v (Amended SoldByRulesTwo line) is = rw (is.1.0, le-leb (length line) 200 is.1.1.0, is.1.1.1) refl
+event_read v (Amended Delayed line) is = rw (is.1.0, le-leb (length line) 200 is.1.1.0, is.1.1.1) refl
+event_read v (Amended Dropped line) is = rw (is.1.0, le-leb (length line) 200 is.1.1.0, is.1.1.1) refl
+event_read v (Amended Out line) is = rw (is.1.0, le-leb (length line) 200 is.1.1.0, is.1.1.1) refl
 event_read v (HeardByRulesTwo octets) is =
     rw (le-leb (length (hex_of 65 octets)) 520 (omega (arith, hex_length 65 octets, is.1.1)), octets_read 65 (omega arith) octets is.0, is.1.0) refl
 

@@ -1,6 +1,6 @@
 -- What is read is spelled so.
 use Rattle.bx_events.specs.declared.amendment.Amendment.{Amendment}
-use Rattle.bx_events.specs.declared.amendment.Amendment.TheVariants.{Sold, Cancelled, Changed}
+use Rattle.bx_events.specs.declared.amendment.Amendment.TheVariants.{Sold, Cancelled, Changed, SoldByRulesTwo, Delayed, Dropped, Out}
 use Rattle.bx_events.specs.declared.rules.Rules.TheVariants.{Two, Three}
 use Rattle.std.proofs.Common.{codes, ◌≡◌, ℕ, zero, suc, ◌+◌, ◌-◌, ◌*◌, ◌/◌, ◌%◌, ◌≤◌, ◌<◌, ◌==◌, ◌&&◌, Bool, true, false, cond, leb, nat_le, List, [], ◌∷◌, ◌++◌, length, take, drop, get_or, map, Option, Some, None, Result, Ok, Err, refl, ap, sym, ◌∙◌, subst, arith, length-append, take-append-drop}
 use Rattle.std.specs.Str.{bytes_eq}
@@ -19,7 +19,7 @@ use Rattle.bx_journal.specs.Hex.{hex_digit, hex_of, hex_value, octet_of_digits, 
 use Rattle.bx_journal.specs.Lines.{whole_lines, whole_text, line_ended, onto}
 use Rattle.bx_journal.specs.Inside.{HasNoLf, HaveNoLf, lines_of}
 use Rattle.bx_journal.specs.Text.{amendment_word, line_of, version_line, plan_line, day_line, day_lines, lines_in, journal_text}
-use Rattle.bx_journal.specs.Reading.{event_on, heard_on, heard_event, amended_on, begins_as, behind_word, amendment_on, events_on, with_event, head_on, events_after, journal_events, recovered, Recovery, journal_in, with_whole, IsJournalText}
+use Rattle.bx_journal.specs.Reading.{event_on, heard_on, heard_event, amended_on, begins_as, behind_word, sale_of, change_on, amendment_on, events_on, with_event, head_on, events_after, journal_events, recovered, Recovery, journal_in, with_whole, IsJournalText}
 use Rattle.bx_journal.specs.Heads.{IsJournalDay, IsWanted, wanted_of}
 use Rattle.bx_journal.specs.declared.head.Head.{Head}
 use Rattle.bx_journal.specs.declared.head.JournalDay.{JournalDay}
@@ -138,14 +138,30 @@ amended v kind line e has begins some =
     let spelled : line ≡ amendment_word kind ++ behind_word kind line = sym (take-append-drop n line) ∙ ap (λ (l : List ℕ). l ++ behind_word kind line) word in
     fine_amended v kind line (behind_word kind line) e (nat_le (length (behind_word kind line)) 200 && list_all is_printable (behind_word kind line)) refl has spelled some
 
--- the same by the first of these words
-amendment : (v : Version) (s o g h : Bool) (line : List ℕ) (e : LiveEvent) → begins_as Sold line ≡ s → is_older v ≡ o → begins_as Cancelled line ≡ g → begins_as Changed line ≡ h
-    → cond s (amended_on Sold (behind_word Sold line)) (cond o None (cond g (amended_on Cancelled (behind_word Cancelled line)) (cond h (amended_on Changed (behind_word Changed line)) None))) ≡ Some e → IsLineOf v line e
-amendment v true o g h line e sells older gives changes some = amended v Sold line e tt sells some
-amendment v false true g h line e sells older gives changes some = absurd cc
-amendment v false false true h line e sells newer gives changes some = amended v Cancelled line e newer gives some
-amendment v false false false true line e sells newer gives changes some = amended v Changed line e newer changes some
-amendment v false false false false line e sells newer gives changes some = absurd cc
+-- a sale, by the rules of the journal
+sale : (v : Version) (o : Bool) (line : List ℕ) (e : LiveEvent) → is_older v ≡ o → begins_as Sold line ≡ true → amended_on (cond o SoldByRulesTwo Sold) (behind_word Sold line) ≡ Some e → IsLineOf v line e
+sale v true line e older begins some = amended v SoldByRulesTwo line e older begins some
+sale v false line e newer begins some = amended v Sold line e newer begins some
+
+-- a line that begins with such a word, or is read by the words after it
+by_word : (v : Version) (kind : Amendment) (begins : Bool) (rest : Option LiveEvent) (line : List ℕ) (e : LiveEvent) → HasAmendments v kind → begins_as kind line ≡ begins → (rest ≡ Some e → IsLineOf v line e)
+    → cond begins (amended_on kind (behind_word kind line)) rest ≡ Some e → IsLineOf v line e
+by_word v kind true rest line e has begins more some = amended v kind line e has begins some
+by_word v kind false rest line e has begins more some = more some
+
+change : (v : Version) (line : List ℕ) (e : LiveEvent) → is_older v ≡ false → change_on line ≡ Some e → IsLineOf v line e
+change v line e newer =
+    by_word v Cancelled (begins_as Cancelled line) _ line e newer refl
+    (by_word v Changed (begins_as Changed line) _ line e newer refl
+    (by_word v Delayed (begins_as Delayed line) _ line e newer refl
+    (by_word v Dropped (begins_as Dropped line) _ line e newer refl
+    (by_word v Out (begins_as Out line) _ line e newer refl (λ some. absurd cc)))))
+
+amendment : (v : Version) (s o : Bool) (line : List ℕ) (e : LiveEvent) → begins_as Sold line ≡ s → is_older v ≡ o
+    → cond s (amended_on (sale_of v) (behind_word Sold line)) (cond o None (change_on line)) ≡ Some e → IsLineOf v line e
+amendment v true o line e sells rules some = sale v (is_older v) line e refl sells some
+amendment v false true line e sells older some = absurd cc
+amendment v false false line e sells newer some = change v line e newer some
 
 down_fits : (t : Bool) (v : Version) → is_older v ≡ t → FitsVersion v (WithoutLink (cond t Two Three))
 down_fits true v older = older
@@ -156,7 +172,7 @@ forms : (v : Version) (t d h : Bool) (line : List ℕ) (e : LiveEvent) → bytes
 forms v true d h line e is down word some = subst (IsLineOf v line) (some_inj _ _ some) (record { spelled = (bytes_eq-Decides line (codes "tick")).0 is; octets = (tt, tt) })
 forms v false true h line e is down word some = subst (IsLineOf v line) (some_inj _ _ some) (record { spelled = (bytes_eq-Decides line (codes "down")).0 down; octets = (tt, down_fits (is_older v) v refl) })
 forms v false false true line e is down word some = limited v (leb (length (drop 6 line)) 520) line e refl ((bytes_eq-Decides (take 6 line) (codes "heard ")).0 word) some
-forms v false false false line e is down word some = amendment v (begins_as Sold line) (is_older v) (begins_as Cancelled line) (begins_as Changed line) line e refl refl refl refl some
+forms v false false false line e is down word some = amendment v (begins_as Sold line) (is_older v) line e refl refl some
 
 pub line_spelled : (v : Version) (line : List ℕ) (e : LiveEvent) → event_on v line ≡ Some e → IsLineOf v line e
 line_spelled v line e some = forms v (bytes_eq line (codes "tick")) (bytes_eq line (codes "down")) (bytes_eq (take 6 line) (codes "heard ")) line e refl refl refl some

@@ -3,7 +3,7 @@ use Rattle.std.specs.Prelude.{◌≡◌, ℕ, ◌≤◌, ◌<◌, ◌&&◌, nat_
 use Rattle.std.specs.List.{list_all}
 use Rattle.bx_events.specs.Events.{Tick, Receive, LiveEvent, OnLink, WithoutLink, Amended, HeardByRulesTwo}
 use Rattle.bx_events.specs.declared.amendment.Amendment.{Amendment}
-use Rattle.bx_events.specs.declared.amendment.Amendment.TheVariants.{Sold, Cancelled, Changed}
+use Rattle.bx_events.specs.declared.amendment.Amendment.TheVariants.{Sold, Cancelled, Changed, SoldByRulesTwo, Delayed, Dropped, Out}
 use Rattle.bx_events.specs.declared.rules.Rules.TheVariants.{Two, Three}
 use Rattle.bx_events.specs.Told.{live_event_of}
 use Rattle.bx_events.specs.declared.event.LiveEvent.TheVariants as rust
@@ -24,12 +24,13 @@ is_printable octet = nat_le 32 octet && nat_le octet 126
 abbrev pub IsAmendedLine : List ℕ → Type 0
 IsAmendedLine line = (length line ≤ 200) × (list_all is_printable line ≡ true)
 
--- what came is no longer than the longest message; an exchange of the older rules goes through nothing any more
+-- what came is no longer than the longest message; an exchange of the older rules goes through nothing any more, and sells nothing
 abbrev pub IsLoggable : LiveEvent → Type 0
 IsLoggable (OnLink Tick) = Unit {0}
 IsLoggable (OnLink (Receive octets)) = length octets ≤ MAX_MESSAGE
 IsLoggable (WithoutLink Two) = ⊥
 IsLoggable (WithoutLink Three) = Unit {0}
+IsLoggable (Amended SoldByRulesTwo line) = ⊥
 IsLoggable (Amended kind line) = IsAmendedLine line
 IsLoggable (HeardByRulesTwo octets) = ⊥
 
@@ -43,14 +44,18 @@ HasOctets (WithoutLink rules) = Unit {0}
 HasOctets (Amended kind line) = Unit {0}
 HasOctets (HeardByRulesTwo octets) = AreOctets octets
 
--- a journal of this version has such amendments: by the older rules bookings were sold, and nothing else
+-- a journal of this version has such amendments: by the older rules bookings were sold by these, and nothing else
 abbrev pub HasAmendments : Version → Amendment → Type 0
-HasAmendments version Sold = Unit {0}
+HasAmendments version Sold = is_older version ≡ false
 HasAmendments version Cancelled = is_older version ≡ false
 HasAmendments version Changed = is_older version ≡ false
+HasAmendments version SoldByRulesTwo = is_older version ≡ true
+HasAmendments version Delayed = is_older version ≡ false
+HasAmendments version Dropped = is_older version ≡ false
+HasAmendments version Out = is_older version ≡ false
 
--- what a journal of this version may have: what came to an exchange of the older rules, and its seconds without a link, are in one by
--- these, and in no other
+-- what a journal of this version may have: what came to an exchange of the older rules, its seconds without a link, and its sales, are
+-- in one by these, and in no other
 abbrev pub FitsVersion : Version → LiveEvent → Type 0
 FitsVersion version (OnLink Tick) = Unit {0}
 FitsVersion version (OnLink (Receive octets)) = (is_older version ≡ false) × (length octets ≤ MAX_MESSAGE)

@@ -5,7 +5,7 @@ use Rattle.std.specs.List.{list_all}
 use Rattle.std.specs.Option.{option_map}
 use Rattle.bx_events.specs.Events.{Tick, Receive, LiveEvent, OnLink, WithoutLink, Amended, HeardByRulesTwo}
 use Rattle.bx_events.specs.declared.amendment.Amendment.{Amendment}
-use Rattle.bx_events.specs.declared.amendment.Amendment.TheVariants.{Sold, Cancelled, Changed}
+use Rattle.bx_events.specs.declared.amendment.Amendment.TheVariants.{Sold, Cancelled, Changed, SoldByRulesTwo, Delayed, Dropped, Out}
 use Rattle.bx_journal.specs.declared.fault.JournalFault.{JournalFault}
 use Rattle.bx_journal.specs.declared.fault.JournalFault.TheVariants.{BadLine, OtherPlan, OtherDay, OtherRules, NotBegun}
 use Rattle.bx_journal.specs.declared.head.Head.{Head}
@@ -42,14 +42,26 @@ begins_as kind line = bytes_eq (take (length (amendment_word kind)) line) (amend
 abbrev pub behind_word : Amendment → List ℕ → List ℕ
 behind_word kind line = drop (length (amendment_word kind)) line
 
+-- a sale in a journal of this version
+abbrev pub sale_of : Version → Amendment
+sale_of version = if is_older version then SoldByRulesTwo else Sold
+
+-- what amends the plan by these rules, and is no sale, by its line
+abbrev pub change_on : List ℕ → Option LiveEvent
+change_on line =
+    if begins_as Cancelled line then amended_on Cancelled (behind_word Cancelled line)
+    else if begins_as Changed line then amended_on Changed (behind_word Changed line)
+    else if begins_as Delayed line then amended_on Delayed (behind_word Delayed line)
+    else if begins_as Dropped line then amended_on Dropped (behind_word Dropped line)
+    else if begins_as Out line then amended_on Out (behind_word Out line)
+    else None
+
 -- what amends the plan in a journal of this version, by its line: by the older rules bookings were sold, and nothing else
 abbrev pub amendment_on : Version → List ℕ → Option LiveEvent
 amendment_on version line =
-    if begins_as Sold line then amended_on Sold (behind_word Sold line)
+    if begins_as Sold line then amended_on (sale_of version) (behind_word Sold line)
     else if is_older version then None
-    else if begins_as Cancelled line then amended_on Cancelled (behind_word Cancelled line)
-    else if begins_as Changed line then amended_on Changed (behind_word Changed line)
-    else None
+    else change_on line
 
 -- the event of a line in a journal of this version
 abbrev pub event_on : Version → List ℕ → Option LiveEvent

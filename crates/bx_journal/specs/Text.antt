@@ -3,7 +3,7 @@ use Rattle.std.specs.Prelude.{ℕ, List, [], ◌∷◌, ◌++◌, map, codes, de
 use Rattle.std.specs.List.{flat_map}
 use Rattle.bx_events.specs.Events.{Tick, Receive, LiveEvent, OnLink, WithoutLink, Amended, HeardByRulesTwo}
 use Rattle.bx_events.specs.declared.amendment.Amendment.{Amendment}
-use Rattle.bx_events.specs.declared.amendment.Amendment.TheVariants.{Sold, Cancelled, Changed}
+use Rattle.bx_events.specs.declared.amendment.Amendment.TheVariants.{Sold, Cancelled, Changed, SoldByRulesTwo, Delayed, Dropped, Out}
 use Rattle.bx_journal.specs.Hex.{hex_of}
 use Rattle.bx_journal.specs.Lines.{line_ended}
 use Rattle.bx_journal.specs.declared.head.Head.{Head}
@@ -19,6 +19,10 @@ abbrev pub amendment_word : Amendment → List ℕ
 amendment_word Sold = codes "sold "
 amendment_word Cancelled = codes "cancelled "
 amendment_word Changed = codes "changed "
+amendment_word SoldByRulesTwo = codes "sold "
+amendment_word Delayed = codes "delayed "
+amendment_word Dropped = codes "dropped "
+amendment_word Out = codes "out "
 
 -- the line of an event, without its LF
 abbrev pub line_of : LiveEvent → List ℕ

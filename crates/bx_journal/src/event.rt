@@ -9,7 +9,8 @@ use bx_q931::Octets;
 /// What a line that amends the plan has behind its word: printable ASCII.
 pub type AmendedLine = ArrayVec<u8, 200>;
 
-/// An event of a live day, with the octets that came, to an exchange of these rules or of the rules 2, as with a second without a link.
+/// An event of a live day, with the octets that came, to an exchange of these rules or of the rules 2, as with a sale, and with a second
+/// without a link.
 #[derive(Drop)]
 pub enum LoggedEvent {
     Tick,

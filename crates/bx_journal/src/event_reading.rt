@@ -4,7 +4,7 @@ ghost use Rattle.std.specs.Prelude.{◌≡◌};
 ghost use Rattle.std.specs.List.{list_all};
 ghost use Rattle.std.specs.Option.{option_map};
 ghost use Rattle.bx_journal.specs.Events.{is_printable, logged_event};
-ghost use Rattle.bx_journal.specs.Reading.{amended_on, amendment_on, event_on, heard_event, heard_on};
+ghost use Rattle.bx_journal.specs.Reading.{amended_on, amendment_on, change_on, event_on, heard_event, heard_on, sale_of};
 
 use crate::event::{AmendedLine, LoggedEvent};
 use crate::hex::octets_in;
@@ -60,20 +60,46 @@ fn amended_on(kind: Amendment, text: &[u8]) -> Option<LoggedEvent>
     }
 }
 
+/// A sale in a journal of this version.
+fn sale(version: Version) -> Amendment
+    ensures { result ≡ sale_of version }
+{
+    if version.is_older() {
+        Amendment::SoldByRulesTwo
+    } else {
+        Amendment::Sold
+    }
+}
+
+/// What amends the plan by these rules, and is no sale, by its line.
+fn change_on(line: &[u8]) -> Option<LoggedEvent>
+    ensures { option_map logged_event result ≡ change_on line.now }
+{
+    if let Some(text) = line.strip_prefix(amendment_word(Amendment::Cancelled)) {
+        amended_on(Amendment::Cancelled, text)
+    } else if let Some(text) = line.strip_prefix(amendment_word(Amendment::Changed)) {
+        amended_on(Amendment::Changed, text)
+    } else if let Some(text) = line.strip_prefix(amendment_word(Amendment::Delayed)) {
+        amended_on(Amendment::Delayed, text)
+    } else if let Some(text) = line.strip_prefix(amendment_word(Amendment::Dropped)) {
+        amended_on(Amendment::Dropped, text)
+    } else if let Some(text) = line.strip_prefix(amendment_word(Amendment::Out)) {
+        amended_on(Amendment::Out, text)
+    } else {
+        None
+    }
+}
+
 /// What amends the plan in a journal of this version, by its line: by the older rules bookings were sold, and nothing else.
 fn amendment_on(version: Version, line: &[u8]) -> Option<LoggedEvent>
     ensures { option_map logged_event result ≡ amendment_on version line.now }
 {
     if let Some(text) = line.strip_prefix(amendment_word(Amendment::Sold)) {
-        amended_on(Amendment::Sold, text)
+        amended_on(sale(version), text)
     } else if version.is_older() {
         None
-    } else if let Some(text) = line.strip_prefix(amendment_word(Amendment::Cancelled)) {
-        amended_on(Amendment::Cancelled, text)
-    } else if let Some(text) = line.strip_prefix(amendment_word(Amendment::Changed)) {
-        amended_on(Amendment::Changed, text)
     } else {
-        None
+        change_on(line)
     }
 }
 

@@ -11,7 +11,8 @@ ghost use Rattle.bx_journal.specs.Laws.{IsReadWithItsHeadAlone, IsOlderOfNoDay, 
 use crate::disk::Disk;
 
 /// The text of events is read as these events, whatever stands after it that no LF ends: where its own head is wanted, or only
-/// its plan; and so is one by the older rules, or of version 1, where no day is wanted, with what came to an exchange of these rules.
+/// its plan; and so is one by the older rules, or of version 1, where no day is wanted, with what came to an exchange of these rules, and
+/// what it sold.
 pub fn read_again()
     ensures own { IsOwnTextReadAgain }
     ensures wanted { IsWantedTextReadAgain }

@@ -65,6 +65,10 @@ pub(crate) fn amendment_word(kind: Amendment) -> &'static [u8]
         Amendment::Sold => b"sold ",
         Amendment::Cancelled => b"cancelled ",
         Amendment::Changed => b"changed ",
+        Amendment::SoldByRulesTwo => b"sold ",
+        Amendment::Delayed => b"delayed ",
+        Amendment::Dropped => b"dropped ",
+        Amendment::Out => b"out ",
     }
 }
 

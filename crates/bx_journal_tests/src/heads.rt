@@ -196,7 +196,7 @@ fn the_first_fault_of_a_head_is_answered(rt: HostRuntime) -> Result<(), Fail> {
 /// Whether a journal is read to this octet where no day is wanted, with what happened told as by the older rules, and is refused where
 /// one is.
 fn is_older(text: &[u8], whole: u64) -> bool {
-    let told = b"to\x08\x02\x01\x00\x75.eto.s60 90 5 1234 in.".as_slice();
+    let told = b"to\x08\x02\x01\x00\x75.eto.r60 90 5 1234 in.".as_slice();
     let read = reading(text, &Wanted::of_any_day(&PLAN));
     let refused = reading(text, &HEAD.wanted());
     read.answer == Ok(whole)

@@ -62,7 +62,7 @@ fn kind_of(text: &[u8]) -> Kind {
 /// The letter of a line that amends the plan, and what it has behind its word.
 fn amendment(line: &[u8], is_older: bool) -> Option<(u8, &[u8])> {
     if let Some(text) = line.strip_prefix(b"sold ".as_slice()) {
-        return Some((b's', text));
+        return Some((if is_older { b'r' } else { b's' }, text));
     }
     if is_older {
         return None;
@@ -70,8 +70,22 @@ fn amendment(line: &[u8], is_older: bool) -> Option<(u8, &[u8])> {
     if let Some(text) = line.strip_prefix(b"cancelled ".as_slice()) {
         return Some((b'x', text));
     }
-    let text = line.strip_prefix(b"changed ".as_slice())?;
-    Some((b'c', text))
+    if let Some(text) = line.strip_prefix(b"changed ".as_slice()) {
+        return Some((b'c', text));
+    }
+    lost(line)
+}
+
+/// The same of a line that stands where a channel is lost.
+fn lost(line: &[u8]) -> Option<(u8, &[u8])> {
+    if let Some(text) = line.strip_prefix(b"delayed ".as_slice()) {
+        return Some((b'w', text));
+    }
+    if let Some(text) = line.strip_prefix(b"dropped ".as_slice()) {
+        return Some((b'g', text));
+    }
+    let text = line.strip_prefix(b"out ".as_slice())?;
+    Some((b'l', text))
 }
 
 /// Writes down what a line says, and answers whether it is right.

@@ -2,7 +2,7 @@
 
 use crate::plain_reading::plain_reading;
 use crate::told::reading;
-use crate::worked::{AMENDED, HEAD, OLDER, PLAN, REHEARSED, TEXT, UNDATED};
+use crate::worked::{AMENDED, HEAD, LOST, OLDER, PLAN, REHEARSED, TEXT, UNDATED};
 use arrayvec::ArrayVec;
 use bx_cases::Failing;
 use bx_journal::{JournalFault, Wanted, plan_digest};
@@ -73,6 +73,7 @@ fn each_prefix_is_read(rt: HostRuntime) -> Result<(), Fail> {
     assert!(rt; is_same_ahead(OLDER));
     assert!(rt; is_same_ahead(UNDATED));
     assert!(rt; is_same_ahead(AMENDED));
+    assert!(rt; is_same_ahead(LOST));
     Ok(())
 }
 
@@ -85,6 +86,7 @@ fn each_octet_may_be_another(rt: HostRuntime) -> Result<(), Fail> {
 #[test]
 fn each_octet_of_an_amendment_may_be_another(rt: HostRuntime) -> Result<(), Fail> {
     assert!(rt; is_same_beside(AMENDED, 114));
+    assert!(rt; is_same_beside(LOST, 114));
     Ok(())
 }
 
@@ -154,5 +156,11 @@ fn no_amendment_is_longer_than_its_line(rt: HostRuntime) -> Result<(), Fail> {
     assert!(rt; digits_after(alloc, b"cancelled ", 201, b"\n") == bad);
     assert!(rt; digits_after(alloc, b"changed ", 200, b"\n") == Some(Ok(323)));
     assert!(rt; digits_after(alloc, b"changed ", 201, b"\n") == bad);
+    assert!(rt; digits_after(alloc, b"delayed ", 200, b"\n") == Some(Ok(323)));
+    assert!(rt; digits_after(alloc, b"delayed ", 201, b"\n") == bad);
+    assert!(rt; digits_after(alloc, b"dropped ", 200, b"\n") == Some(Ok(323)));
+    assert!(rt; digits_after(alloc, b"dropped ", 201, b"\n") == bad);
+    assert!(rt; digits_after(alloc, b"out ", 200, b"\n") == Some(Ok(319)));
+    assert!(rt; digits_after(alloc, b"out ", 201, b"\n") == bad);
     Ok(())
 }

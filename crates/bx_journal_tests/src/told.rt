@@ -6,9 +6,9 @@ use bx_devices::Watched;
 use bx_journal::{Amendment, Follower, JournalFault, LoggedEvent, Wanted, read_journal};
 use std::io::Read;
 
-/// A letter for each event, `t`, `d`, `e`, `h`, `o`, `s`, `x` or `c`: `d` is a second without a link, `e` one by the older rules; and after
-/// `h`, of what came, `o`, of what came by the older rules, `s`, of what was sold, `x`, of what was cancelled, and `c`, of what was changed,
-/// the octets and a full stop.
+/// A letter for each event: `t` is a second on the link, `d` one without a link, `e` one by the older rules; and after `h`, of what came,
+/// `o`, of what came by the older rules, `s`, of what was sold, `r`, of what was sold by the older rules, `x`, of what was cancelled, `c`, of
+/// what was changed, `w`, of what waits, `g`, of what the exchange gave up, and `l`, of a channel that was lost, the octets and a full stop.
 #[derive(Drop)]
 pub struct Told {
     pub marks: ArrayVec<u8, 256>,
@@ -27,6 +27,10 @@ fn letter(kind: Amendment) -> u8 {
         Amendment::Sold => b's',
         Amendment::Cancelled => b'x',
         Amendment::Changed => b'c',
+        Amendment::SoldByRulesTwo => b'r',
+        Amendment::Delayed => b'w',
+        Amendment::Dropped => b'g',
+        Amendment::Out => b'l',
     }
 }
 

@@ -23,6 +23,10 @@ pub static TEXT: &[u8] =
 pub static AMENDED: &[u8] =
     b"bx-journal 2 rules 3\nplan abababababababababababababababababababababababababababababababab\nday live 1767222000 60\ncancelled 12\nchanged 12 60 90 5 1234 - in\n";
 
+/// A channel that is lost, a booking that waits, and one that the exchange gives up.
+pub static LOST: &[u8] =
+    b"bx-journal 2 rules 3\nplan abababababababababababababababababababababababababababababababab\nday live 1767222000 60\nout 4\ndelayed 12 60 90 5 1234 - in\ndropped 7\n";
+
 /// Where the head ends, and each event after it.
 pub static ENDS: [u64; 7] = [114, 119, 136, 141, 146, 153, 174];
 

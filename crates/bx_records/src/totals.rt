@@ -3,7 +3,7 @@
 ghost use Rattle.std.specs.Prelude.{◌≡◌, ◌≤◌, ◌+◌, ◌++◌, length, not, IsTrue, OnOk, OnErr};
 ghost use Rattle.std.specs.Io.KnownBytes.{Appends};
 ghost use Rattle.bx_base.specs.declared.bookings.TheConstants.{MAX_BOOKINGS};
-ghost use Rattle.bx_day.specs.Invariant.{is_refused, stands_accepted};
+ghost use Rattle.bx_day.specs.Invariant.{stands_accepted};
 ghost use Rattle.bx_devices.specs.Octets.{AppendsPrefix};
 ghost use Rattle.bx_devices.specs.Watching.{device_of, is_faulted};
 ghost use Rattle.bx_records.specs.Totals.{is_carried, totals_text};
@@ -14,7 +14,7 @@ ghost use Rattle.arrayvec.specs.ArrayVec.{array_vec_len};
 use crate::lasted::{Lasted, is_carried, lasted_of};
 use crate::tallies::Tally;
 use arrayvec::ArrayVec;
-use bx_day::{Entry, Exchange, Standing};
+use bx_day::{Entry, Exchange};
 use bx_devices::{Watched, WriteFailed, write_octets};
 use bx_text::{Line, add, add_decimal, append};
 use std::io::Write;
@@ -24,13 +24,6 @@ use std::io::Write;
 struct Totals {
     accepted: Tally,
     carried: Tally,
-}
-
-/// Whether the plan accepts the booking of which this has become.
-fn accepted(standing: &Standing) -> bool
-    ensures { result ≡ stands_accepted standing.now }
-{
-    !matches!(standing, Standing::Refused)
 }
 
 /// The totals of a day's bookings.
@@ -44,7 +37,7 @@ fn totals_of(entries: &[Entry]) -> Totals
         carried: Tally::NONE,
     };
     for entry in entries {
-        totals.accepted.count(entry, accepted(&entry.standing));
+        totals.accepted.count(entry, !entry.standing.is_refused());
         totals.carried.count(entry, is_carried(&entry.standing));
     }
     totals

@@ -1,5 +1,5 @@
 -- The day of a plan that changes is the day of its last plan over the same events.
-use Rattle.std.proofs.Common.{◌≡◌, ℕ, Bool, List, [], ◌∷◌, ◌++◌, Option, sym, subst, ap, ◌∙◌}
+use Rattle.std.proofs.Common.{◌≡◌, ℕ, Bool, List, [], ◌∷◌, ◌++◌, Option, refl, sym, subst, ap, ◌∙◌}
 use Rattle.bx_base.specs.Bookings.{Row, AreBookings, Carries}
 use Rattle.bx_base.specs.Plans.{is_accepted, channel_at}
 use Rattle.bx_events.specs.Events.{LiveEvent}
@@ -8,8 +8,11 @@ use Rattle.bx_day.specs.Day.{Day, opening}
 use Rattle.bx_day.specs.Outages.{live_happens, live_day_after}
 use Rattle.bx_day.proofs.ChangedPlan.{changed_day}
 use Rattle.bx_sales.specs.Changes.{ChangeStep, Happened, Changed, changed_day_after, events_of_changes, rows_at_last, assigned_at_last, AreChanges}
-use Rattle.bx_sales.proofs.Sales.{one_more, joined}
-use Rattle.bx_sales.proofs.Told.{nothing_more}
+use Rattle.bx_sales.proofs.Places.{nothing_more, joined}
+
+pub one_more : (events : List LiveEvent) (event : LiveEvent) (d : Day) → (live_happens (live_day_after events d) event).day ≡ live_day_after (events ++ event ∷ []) d
+one_more [] event d = refl
+one_more (e ∷ events) event d = one_more events event (live_happens d e).day
 
 -- the day so far is that of this plan, over these events
 pub changes_day : (channels : List Bool) (steps : List ChangeStep) (rows : List Row) (assigned : List (Option ℕ)) (events : List LiveEvent) (d : Day) → AreBookings rows → d ≡ live_day_after events (opening rows assigned) → AreChanges channels steps d → changed_day_after steps d ≡ live_day_after (events ++ events_of_changes steps) (opening (rows_at_last rows steps) (assigned_at_last assigned steps))

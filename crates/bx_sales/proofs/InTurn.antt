@@ -1,34 +1,31 @@
--- Bookings that are sold in one step are sold in turn: what is sold later moves nothing that has begun, and what waits has in the end the channels of
--- the last plan.
-use Rattle.std.proofs.Common.{◌≡◌, ℕ, zero, suc, ◌+◌, ◌-◌, ◌<◌, ◌≤◌, ◌&&◌, not, Bool, true, false, cond, List, [], ◌∷◌, ◌++◌, map, length, replicate, Option, Some, None, is_some, arith, refl, sym, subst, ap, ap₂, ◌∙◌, slice_index_or}
-use Rattle.std.proofs.lemmas.Bool.{false≢true}
-use Rattle.std.proofs.lemmas.List.{length-append, length-map, length-replicate, get_or_append_left, get_or-append_right}
+-- Bookings that are sold in one step are sold in turn: of the first of them there is a colouring beside what has begun, as there is of all.
+use Rattle.std.proofs.Common.{◌≡◌, ℕ, suc, ◌<◌, ◌≤◌, ◌&&◌, Bool, true, false, cond, List, [], ◌∷◌, ◌++◌, length, replicate, Option, Some, None, arith, refl, sym, subst, ap, ap₂, ◌∙◌, slice_index_or, append_assoc}
+use Rattle.std.proofs.lemmas.List.{length-append, length-replicate, length-map, get_or_append_left}
 use Rattle.bx_base.specs.Bookings.{Row, row_at, no_row, is_running, IsBooking, AreBookings}
-use Rattle.bx_base.specs.Channels.{IsChannelSet}
-use Rattle.bx_base.specs.Extending.{IsSameBooking}
-use Rattle.bx_base.specs.Plans.{is_accepted}
+use Rattle.bx_base.specs.Channels.{IsChannelSet, has_channel}
 use Rattle.bx_base.specs.Sums.{sum_below}
 use Rattle.bx_base.proofs.SumLemmas.{sum_below-same, sum_below-more}
-use Rattle.bx_colour.specs.Colouring.{FitsChannels, IsFirstFit, is_in, channel_of}
-use Rattle.bx_colour.proofs.FirstFitStays.{channels_stay}
-use Rattle.bx_colour.proofs.Outcome.{accepts_same, carries}
-use Rattle.bx_day.specs.Day.{Day, entry_at, entry_of, entries_from}
-use Rattle.bx_day.specs.Extended.{with_standings, extended, IsExtendedBy}
-use Rattle.bx_day.specs.Invariant.{is_refused}
-use Rattle.bx_day.specs.declared.entry.Entry.{Entry}
+use Rattle.bx_colour.specs.Beside.{counts_on, marks_beside}
+use Rattle.bx_colour.specs.ChangedRows.{IsFirstFitAmong, choice_of, choices_of, AreChoicesIn}
+use Rattle.bx_colour.specs.Colouring.{FitsChannels, IsGiven, is_in}
+use Rattle.bx_colour.proofs.OutcomeAmong.{carries}
+use Rattle.bx_day.specs.Changed.{changed, AgreesWith, AreReferredByRow}
+use Rattle.bx_day.specs.Day.{Day, entry_at}
+use Rattle.bx_day.specs.Reading.{Seated}
+use Rattle.bx_day.specs.Restoring.{IsState}
+use Rattle.bx_day.proofs.Once.{each_at}
+use Rattle.bx_sales.specs.GoingOn.{own_at, own_of, KeepsBegun, GoesOnBeside, FitsBeside}
 use Rattle.bx_sales.specs.Selling.{rows_of, marks_of, rows_with, marks_with, IsSold}
 use Rattle.bx_sales.specs.SellingAll.{AreLater, rows_and, marks_and}
-use Rattle.bx_sales.specs.SoldTogether.{IsSaleOf}
 use Rattle.bx_sales.specs.Sold.{AreSoldInTurn}
-use Rattle.bx_sales.proofs.FirstFitFound.{first_fit_found}
-use Rattle.bx_sales.proofs.OneMore.{rows_sold_with, marks_sold_with}
-use Rattle.bx_sales.proofs.Sales.{joined}
-use Rattle.bx_sales.proofs.StayingFirst.{rows_size, row_there}
+use Rattle.bx_sales.proofs.Again.{own_same, referred_there, changed_twice, keeps_then}
+use Rattle.bx_sales.proofs.Beside.{own_begun, begun_accepted, begun_apart, agrees_beside}
+use Rattle.bx_sales.proofs.FoundBeside.{found_beside}
+use Rattle.bx_sales.proofs.GoneOn.{rows_then, marks_then}
+use Rattle.bx_sales.proofs.Keeping.{keeps_and, count_and}
+use Rattle.bx_sales.proofs.Places.{rows_size, marks_size, nothing_more, joined}
 
 -- ---- the first of more bookings
-
-same_booking : (a b : Row) → b ≡ a → IsSameBooking a b
-same_booking a b q = record { start = ap (λ (r : Row). r.start) q; end = ap (λ (r : Row). r.end) q; pay = ap (λ (r : Row). r.pay) q; number = ap (λ (r : Row). r.number) q; inward = ap (λ (r : Row). r.inward) q }
 
 fewer_fit : (channels : List Bool) (rows more : List Row) (marks others : List Bool) → length marks ≡ length rows → FitsChannels (rows ++ more) (marks ++ others) channels → FitsChannels rows marks channels
 fewer_fit channels rows more marks others count fits = record {
@@ -52,280 +49,259 @@ fewer_bookings rows more b =
       each = λ i lt. subst IsBooking (get_or_append_left rows more no_row i lt) (b.each i (omega (arith, lt, size)));
     }
 
--- ---- the entries of a day that goes on twice
+-- more marks behind those of what may have a channel of its own
+beside_more : (own : List (Option ℕ)) (channels marks more : List Bool) → length own ≡ length marks → marks_beside own channels (marks ++ more) ≡ marks_beside own channels marks ++ more
+beside_more [] channels [] more count = refl
+beside_more [] channels (m ∷ marks) more count = absurd (omega (arith, count))
+beside_more (o ∷ own) channels [] more count = absurd (omega (arith, count))
+beside_more (o ∷ own) channels (m ∷ marks) more count = ap (λ (l : List Bool). (m && counts_on channels o) ∷ l) (beside_more own channels marks more (omega (arith, count)))
 
-mark_there : (es : List Entry) (i : ℕ) → i < length es → is_in (map (λ (e : Entry). not (is_refused e.standing)) es) i ≡ not (is_refused (entry_at es i).standing)
-mark_there [] i lt = absurd (omega (arith, lt))
-mark_there (e ∷ es) zero lt = refl
-mark_there (e ∷ es) (suc i) lt = mark_there es i (omega (arith, lt))
+beside_size : (own : List (Option ℕ)) (channels marks : List Bool) → length own ≡ length marks → length (marks_beside own channels marks) ≡ length marks
+beside_size [] channels marks count = refl
+beside_size (o ∷ own) channels [] count = absurd (omega (arith, count))
+beside_size (o ∷ own) channels (m ∷ marks) count = ap suc (beside_size own channels marks (omega (arith, count)))
 
-entry_refers : (row : ℕ) (b : Row) (a : Option ℕ) → (entry_of row b a).reference ≡ (entry_of row b a).row
-entry_refers row b None = refl
-entry_refers row b (Some c) = refl
+marks_split : (xs ys : List Row) → replicate (length (xs ++ ys)) true ≡ replicate (length xs) true ++ replicate (length ys) true
+marks_split [] ys = refl
+marks_split (x ∷ xs) ys = ap (λ (l : List Bool). true ∷ l) (marks_split xs ys)
 
--- each has its row as its reference, and the channel that the plan gives it
-record IsPlanned (e : Entry) (a : Option ℕ) : Type 0 where
-  pub reference : e.reference ≡ e.row
-  pub channel : is_some a ≡ true → a ≡ Some e.channel
+-- the same channels to choose from, place by place
+fit_from : (rows : List Row) (own own' : List (Option ℕ)) (channels marks : List Bool) (assigned : List (Option ℕ)) → ((i : ℕ) → slice_index_or own' i None ≡ slice_index_or own i None) → IsFirstFitAmong rows (choices_of own channels) marks assigned → IsFirstFitAmong rows (choices_of own' channels) marks assigned
+fit_from rows own own' channels marks assigned same fit = record {
+  one_each = fit.one_each;
+  given = λ i lt marked. subst (λ (o : Option ℕ). IsGiven rows (choice_of o channels) assigned i) (sym (same i)) (fit.given i lt marked);
+  refused = fit.refused;
+}
 
-planned_one : (row : ℕ) (b : Row) (a : Option ℕ) (e : Entry) → e.reference ≡ (entry_of row b a).reference → e.row ≡ (entry_of row b a).row → e.channel ≡ (entry_of row b a).channel → IsPlanned e a
-planned_one row b None e r n c = record { reference = r ∙ sym n; channel = λ h. absurd (false≢true h) }
-planned_one row b (Some k) e r n c = record { reference = r ∙ sym n; channel = λ h. ap (λ (x : ℕ). Some x) (sym c) }
+choices_from : (service : List Bool) (own own' : List (Option ℕ)) (channels : List Bool) → ((i : ℕ) → slice_index_or own' i None ≡ slice_index_or own i None) → AreChoicesIn service own channels → AreChoicesIn service own' channels
+choices_from service own own' channels same inside i c has = inside i c (subst (λ (o : Option ℕ). has_channel (choice_of o channels) c ≡ true) (same i) has)
 
-planned : (es : List Entry) (row : ℕ) (rows : List Row) (assigned : List (Option ℕ)) (i : ℕ) → length es ≤ length rows → i < length rows → IsPlanned (entry_at (with_standings es (entries_from row rows assigned)) i) (slice_index_or assigned i None)
-planned es row [] assigned i le lt = absurd (omega (arith, lt))
-planned [] row (b ∷ rows) [] zero le lt = planned_one row b None _ refl refl refl
-planned [] row (b ∷ rows) [] (suc i) le lt = planned [] (row + 1) rows [] i (omega arith) (omega (arith, lt))
-planned [] row (b ∷ rows) (a ∷ assigned) zero le lt = planned_one row b a _ refl refl refl
-planned [] row (b ∷ rows) (a ∷ assigned) (suc i) le lt = planned [] (row + 1) rows assigned i (omega arith) (omega (arith, lt))
-planned (e ∷ es) row (b ∷ rows) [] zero le lt = planned_one row b None _ refl refl refl
-planned (e ∷ es) row (b ∷ rows) [] (suc i) le lt = planned es (row + 1) rows [] i (omega (arith, le)) (omega (arith, lt))
-planned (e ∷ es) row (b ∷ rows) (a ∷ assigned) zero le lt = planned_one row b a _ refl refl refl
-planned (e ∷ es) row (b ∷ rows) (a ∷ assigned) (suc i) le lt = planned es (row + 1) rows assigned i (omega (arith, le)) (omega (arith, lt))
+-- ---- a day on the way
 
--- the one that is new waits in both
-waits_in_both : (n : ℕ) (b : Row) (a a' : Option ℕ) → is_some a ≡ true → is_some a' ≡ true → record (entry_of n b a') { standing = (entry_of n b a).standing } ≡ entry_of n b a'
-waits_in_both n b (Some c) (Some c') h k = refl
-waits_in_both n b None a' h k = absurd (false≢true h)
-waits_in_both n b (Some c) None h k = absurd (false≢true k)
+module _ (d : Day) (x : IsState d) where
+  -- some of them are sold: what has begun is the same, and whatever day comes next might have come at once
+  record IsReached (done : List Row) (now : Day) : Type 0 where
+    rows : rows_of now ≡ rows_and d done
+    marks : marks_of now ≡ marks_and d done
+    moment : now.moment ≡ d.moment
+    own : (i : ℕ) → slice_index_or (own_of now) i None ≡ slice_index_or (own_of d) i None
+    keeps : (rows' : List Row) (marks' : List Bool) → length (rows_and d done) ≤ length rows' → KeepsBegun d rows' marks' → KeepsBegun now rows' marks'
+    again : (rows' : List Row) (assigned' : List (Option ℕ)) → length (rows_and d done) ≤ length rows' → changed rows' assigned' now ≡ changed rows' assigned' d
+    referred : AreReferredByRow d.entries → AreReferredByRow now.entries
 
-abbrev given_at : List (Option ℕ) → ℕ → Bool
-given_at assigned i = is_some (slice_index_or assigned i None)
+  at_first : IsReached [] d
+  at_first = record {
+    rows = sym (nothing_more (rows_of d));
+    marks = sym (nothing_more (marks_of d));
+    moment = refl;
+    own = λ i. refl;
+    keeps = λ rows' marks' le keeps. keeps;
+    again = λ rows' assigned' le. refl;
+    referred = λ by_row. by_row;
+  }
 
--- what has become of the bookings of a day, and then of one that waits in the plans of all
-once_more : (es : List Entry) (n : ℕ) (rows : List Row) (b : Row) (rest : List Row) (a a' : List (Option ℕ)) → length es ≡ length rows → given_at a (length rows) ≡ true → given_at a' (length rows) ≡ true
-    → with_standings (with_standings es (entries_from n (rows ++ b ∷ []) a)) (entries_from n (rows ++ b ∷ rest) a') ≡ with_standings es (entries_from n (rows ++ b ∷ rest) a')
-once_more [] n [] b rest [] a' count h k = absurd (false≢true h)
-once_more [] n [] b rest (a ∷ as1) [] count h k = absurd (false≢true k)
-once_more [] n [] b rest (a ∷ as1) (a' ∷ as2) count h k = ap (λ (e : Entry). e ∷ entries_from (n + 1) rest as2) (waits_in_both n b a a' h k)
-once_more [] n (r ∷ rows) b rest a a' count h k = absurd (omega (arith, count))
-once_more (e ∷ es) n [] b rest a a' count h k = absurd (omega (arith, count))
-once_more (e ∷ es) n (r ∷ rows) b rest [] a' count h k = absurd (false≢true h)
-once_more (e ∷ es) n (r ∷ rows) b rest (a ∷ as1) [] count h k = absurd (false≢true k)
-once_more (e ∷ es) n (r ∷ rows) b rest (a ∷ as1) (a' ∷ as2) count h k =
-    ap (λ (l : List Entry). record (entry_of n r a') { standing = e.standing } ∷ l) (once_more es (n + 1) rows b rest as1 as2 (omega (arith, count)) h k)
+  -- numbers of channels
+  numbers : (i c : ℕ) → slice_index_or (own_of d) i None ≡ Some c → c < 32
+  numbers i c q =
+      let b = own_begun d i c q in
+      let seat = each_at Seated d.entries i b.0 x.exchange.seated in
+      let is = seat.channel (begun_accepted _ (entry_at d.entries i).standing b.1) in
+      let same = b.2 in
+      let top = is.1 in
+      omega (arith, same, top)
 
--- ---- the first of several bookings
+  module _ (channels : List Bool) (set : IsChannelSet channels) (by_row : AreReferredByRow d.entries) (service : List Bool) (inside : AreChoicesIn service (own_of d) channels) where
+    -- a colouring of the first of them
+    record IsColoured (done : List Row) (assigned : List (Option ℕ)) : Type 0 where
+      later : AreLater d.moment done
+      bookings : AreBookings (rows_and d done)
+      fit : IsFirstFitAmong (rows_and d done) (choices_of (own_of d) channels) (marks_and d done) assigned
 
-module _ (channels : List Bool) (set : IsChannelSet channels) (row : Row) (rest : List Row) (d : Day) (later : AreLater d.moment (row ∷ rest)) (fits : FitsChannels (rows_and d (row ∷ rest)) (marks_and d (row ∷ rest)) channels) (d' : Day) (s : IsSaleOf channels (rows_and d (row ∷ rest)) (marks_and d (row ∷ rest)) d d') where
-  abbrev first : List Row
-  first = rows_with d row
+    -- the day with these
+    abbrev with_these : List Row → List (Option ℕ) → Day
+    with_these done assigned = changed (rows_and d done) assigned d
 
-  abbrev firsts : List Bool
-  firsts = marks_with d
+    module _ (done : List Row) (assigned : List (Option ℕ)) (c : IsColoured done assigned) where
+      all_keep : KeepsBegun d (rows_and d done) (marks_and d done)
+      all_keep = keeps_and d x done c.later
 
-  abbrev all : List Row
-  all = rows_and d (row ∷ rest)
+      agrees : AgreesWith d (rows_and d done) assigned
+      agrees = agrees_beside d (rows_and d done) (marks_and d done) all_keep channels assigned c.fit (λ more. by_row)
 
-  abbrev alls : List Bool
-  alls = marks_and d (row ∷ rest)
-
-  all_is : first ++ rest ≡ all
-  all_is = joined (rows_of d) rest row
-
-  alls_is : firsts ++ replicate (length rest) true ≡ alls
-  alls_is = joined (marks_of d) (replicate (length rest) true) true
-
-  size : length (rows_of d) ≡ length d.entries
-  size = rows_size d.entries
-
-  marks_size : length (marks_of d) ≡ length (rows_of d)
-  marks_size = length-map d.entries (λ (e : Entry). not (is_refused e.standing)) ∙ sym size
-
-  first_size : length first ≡ length (rows_of d) + 1
-  first_size = length-append (rows_of d) (row ∷ [])
-
-  firsts_size : length firsts ≡ length first
-  firsts_size = let m = length-append (marks_of d) (true ∷ []) in omega (arith, m, marks_size, first_size)
-
-  all_size : length all ≡ length first + length rest
-  all_size = sym (ap (λ (rs : List Row). length rs) all_is) ∙ length-append first rest
-
-  alls_size : length alls ≡ length all
-  alls_size = let m = ap (λ (ms : List Bool). length ms) alls_is in let n = length-append firsts (replicate (length rest) true) in let r = length-replicate (length rest) true in omega (arith, m, n, r, firsts_size, all_size)
-
-  row_same : (i : ℕ) → i < length first → row_at all i ≡ row_at first i
-  row_same i lt = ap (λ (rs : List Row). row_at rs i) (sym all_is) ∙ get_or_append_left first rest no_row i lt
-
-  mark_same : (i : ℕ) → i < length first → is_in alls i ≡ is_in firsts i
-  mark_same i lt = ap (λ (ms : List Bool). is_in ms i) (sym alls_is) ∙ get_or_append_left firsts (replicate (length rest) true) false i (omega (arith, lt, firsts_size))
-
-  -- all that is new starts later
-  new_later : (i : ℕ) → length d.entries ≤ i → i < length all → d.moment < (row_at all i).start
-  new_later i low lt =
-      let past : length (rows_of d) ≤ i = omega (arith, low, size) in
-      let n = length-append (rows_of d) (row ∷ rest) in
-      let is : row_at all i ≡ row_at (row ∷ rest) (i - length (rows_of d)) = get_or-append_right (rows_of d) (row ∷ rest) (length (rows_of d)) i no_row refl past in
-      let start = ap (λ (r : Row). r.start) is in
-      let after = later (i - length (rows_of d)) (omega (arith, past, lt, n)) in
-      omega (arith, start, after)
-
-  bookings : AreBookings first
-  bookings = fewer_bookings first rest (subst AreBookings (sym all_is) s.sale.bookings)
-
-  found : (assigned : List (Option ℕ)) × IsFirstFit first channels firsts assigned
-  found = first_fit_found first channels firsts bookings set
-      (fewer_fit channels first rest firsts (replicate (length rest) true) firsts_size
-      (subst (λ ms. FitsChannels (first ++ rest) ms channels) (sym alls_is) (subst (λ rs. FitsChannels rs alls channels) (sym all_is) fits)))
-
-  abbrev one : List (Option ℕ)
-  one = found.0
-
-  abbrev fit : IsFirstFit first channels firsts one
-  fit = found.1
-
-  accepted_one : (i : ℕ) → is_accepted one i ≡ is_in firsts i
-  accepted_one i = accepts_same first channels firsts one firsts_size fit i
-
-  accepted_all : (i : ℕ) → is_accepted s.assigned i ≡ is_in alls i
-  accepted_all i = accepts_same all channels alls s.assigned alls_size s.first_fit i
-
-  same_accepted : (i : ℕ) → i < length first → is_accepted s.assigned i ≡ is_accepted one i
-  same_accepted i lt = accepted_all i ∙ mark_same i lt ∙ sym (accepted_one i)
-
-  stays_at : (i : ℕ) → i < length first → (row_at first i).start ≤ d.moment → channel_of s.assigned i ≡ channel_of one i
-  stays_at i lt early = channels_stay (d.moment + 1) first all channels firsts alls one s.assigned (record {
-    first = fit;
-    second = s.first_fit;
-    longer = omega (arith, all_size);
-    same = λ k less. same_booking (row_at first k) (row_at all k) (row_same k less);
-    marks = λ k less by. mark_same k less;
-    later = λ k low less. (let after = new_later k (omega (arith, low, first_size, size)) less in omega (arith, after));
-  }) i lt (omega (arith, early))
-
-  -- ---- the day goes on with it
-
-  first_extended : IsExtendedBy d first one
-  first_extended = record {
-    longer = omega (arith, first_size, size);
-    kept = λ i inside.
-        let lt : i < length first = omega (arith, inside, first_size, size) in
-        let k = s.sale.extended_by.kept i inside in
-        record {
-          same = subst (IsSameBooking (entry_at d.entries i).booking) (row_same i lt) k.same;
-          reference = k.reference;
-          accepted = sym (same_accepted i lt) ∙ k.accepted;
-          channel = λ accepted early.
-              let start = ap (λ (r : Row). r.start) (row_same i lt) in
-              let there = k.same.start in
-              sym (stays_at i lt (omega (arith, early, start, there))) ∙ k.channel accepted early;
+      gone : GoesOnBeside channels (rows_and d done) (marks_and d done) d (with_these done assigned)
+      gone = record {
+        service = service;
+        choices = inside;
+        assigned = assigned;
+        first_fit = c.fit;
+        keeps = all_keep;
+        change = record {
+          bookings = c.bookings;
+          carried = carries (rows_and d done) (choices_of (own_of d) channels) (marks_and d done) assigned (count_and d x done) c.fit service inside;
+          agrees = agrees;
         };
-    later = λ i low lt. (let after = new_later i low (omega (arith, lt, all_size)) in let start = ap (λ (r : Row). r.start) (row_same i lt) in omega (arith, after, start));
-  }
+        day = refl;
+      }
 
-  abbrev d1 : Day
-  d1 = extended first one d
+      reached : IsReached done (with_these done assigned)
+      reached = record {
+        rows = rows_then channels (rows_and d done) (marks_and d done) d (with_these done assigned) (count_and d x done) gone;
+        marks = marks_then channels (rows_and d done) (marks_and d done) d (with_these done assigned) (count_and d x done) gone;
+        moment = refl;
+        own = own_same d x.ahead channels (rows_and d done) (marks_and d done) assigned all_keep c.fit agrees;
+        keeps = λ rows' marks' le keeps. keeps_then d x.ahead channels (rows_and d done) (marks_and d done) assigned all_keep c.fit agrees rows' le marks' keeps;
+        again = λ rows' assigned' le. changed_twice d x.ahead channels (rows_and d done) (marks_and d done) assigned all_keep c.fit agrees rows' le assigned';
+        referred = referred_there d x.ahead channels (rows_and d done) (marks_and d done) assigned all_keep c.fit agrees x.exchange.numbered;
+      }
 
-  first_sold : IsSold channels row d d1
-  first_sold = record {
-    assigned = one;
-    first_fit = fit;
-    sale = record {
-      bookings = bookings;
-      carried = carries first channels firsts one firsts_size fit;
-      extended_by = first_extended;
-    };
-    day = refl;
-  }
+    -- one more is sold on a day that was reached
+    module _ (done : List Row) (row : Row) (now : Day) (here : IsReached done now) (assigned : List (Option ℕ)) (c : IsColoured (done ++ row ∷ []) assigned) where
+      abbrev more : List Row
+      more = done ++ row ∷ []
 
-  rows_then : rows_of d1 ≡ first
-  rows_then = rows_sold_with channels row d d1 first_sold
+      rows_more : rows_with now row ≡ rows_and d more
+      rows_more = ap (λ (rs : List Row). rs ++ row ∷ []) here.rows ∙ append_assoc (rows_of d) done (row ∷ [])
 
-  marks_then : marks_of d1 ≡ firsts
-  marks_then = marks_sold_with channels row d d1 first_sold
+      marks_more : marks_with now ≡ marks_and d more
+      marks_more =
+          ap (λ (ms : List Bool). ms ++ true ∷ []) here.marks ∙ append_assoc (marks_of d) (replicate (length done) true) (true ∷ [])
+          ∙ ap (λ (ms : List Bool). marks_of d ++ ms) (sym (marks_split done (row ∷ [])))
 
-  size_then : length d1.entries ≡ length first
-  size_then = sym (rows_size d1.entries) ∙ ap (λ (rs : List Row). length rs) rows_then
+      longer : length (rows_and d done) ≤ length (rows_and d more)
+      longer =
+          let a = length-append (rows_of d) done in
+          let b = length-append (rows_of d) more in
+          let n = length-append done (row ∷ []) in
+          omega (arith, a, b, n)
 
-  -- ---- and then with all of them
+      keeps_more : KeepsBegun now (rows_and d more) (marks_and d more)
+      keeps_more = here.keeps (rows_and d more) (marks_and d more) longer (keeps_and d x more c.later)
 
-  given_last : (marks : List Bool) → marks ≡ marks_of d ++ true ∷ [] → is_in marks (length (rows_of d)) ≡ true
-  given_last marks q =
-      ap (λ (ms : List Bool). is_in ms (length (rows_of d))) q ∙ get_or-append_right (marks_of d) (true ∷ []) (length (rows_of d)) (length (rows_of d)) false marks_size (omega arith)
-      ∙ (let z : length (rows_of d) - length (rows_of d) ≡ 0 = omega arith in ap (is_in (true ∷ [])) z)
+      fit_more : IsFirstFitAmong (rows_and d more) (choices_of (own_of now) channels) (marks_and d more) assigned
+      fit_more = fit_from (rows_and d more) (own_of d) (own_of now) channels (marks_and d more) assigned here.own c.fit
 
-  same_day : extended all s.assigned d1 ≡ extended all s.assigned d
-  same_day =
-      let inside : length (rows_of d) < length first = omega (arith, first_size) in
-      let given : is_accepted one (length (rows_of d)) ≡ true = accepted_one (length (rows_of d)) ∙ given_last firsts refl in
-      ap (λ (es : List Entry). record d { entries = es })
-      (once_more d.entries 1 (rows_of d) row rest one s.assigned (sym size) given (same_accepted (length (rows_of d)) inside ∙ given))
-
-  then_extended : IsExtendedBy d1 all s.assigned
-  then_extended = record {
-    longer = omega (arith, size_then, all_size);
-    kept = λ i inside.
-        let lt : i < length first = omega (arith, inside, size_then) in
-        let e = entry_at d1.entries i in
-        let booking : row_at first i ≡ e.booking = ap (λ (rs : List Row). row_at rs i) (sym rows_then) ∙ row_there d1.entries i inside in
-        let p = planned d.entries 1 first one i (omega (arith, first_size, size)) lt in
-        let accepted : is_accepted s.assigned i ≡ not (is_refused e.standing) = same_accepted i lt ∙ accepted_one i ∙ ap (λ (ms : List Bool). is_in ms i) (sym marks_then) ∙ mark_there d1.entries i inside in
-        record {
-          same = same_booking e.booking (row_at all i) (row_same i lt ∙ booking);
-          reference = p.reference;
-          accepted = accepted;
-          channel = λ waits early.
-              let start = ap (λ (r : Row). r.start) booking in
-              stays_at i lt (omega (arith, early, start)) ∙ p.channel (sym (same_accepted i lt) ∙ accepted ∙ ap not waits);
+      goes : GoesOnBeside channels (rows_and d more) (marks_and d more) now (with_these more assigned)
+      goes = record {
+        service = service;
+        choices = choices_from service (own_of d) (own_of now) channels here.own inside;
+        assigned = assigned;
+        first_fit = fit_more;
+        keeps = keeps_more;
+        change = record {
+          bookings = c.bookings;
+          carried = carries (rows_and d more) (choices_of (own_of d) channels) (marks_and d more) assigned (count_and d x more) c.fit service inside;
+          agrees = agrees_beside now (rows_and d more) (marks_and d more) keeps_more channels assigned fit_more (λ shorter. here.referred by_row);
         };
-    later = λ i low lt. new_later i (omega (arith, low, size_then, first_size, size)) lt;
-  }
+        day = sym (here.again (rows_and d more) assigned longer);
+      }
 
-  rows_and_then : rows_and d1 rest ≡ all
-  rows_and_then = ap (λ (rs : List Row). rs ++ rest) rows_then ∙ all_is
+      row_later : now.moment < row.start
+      row_later =
+          let n = length-append done (row ∷ []) in
+          let last : length done < length more = omega (arith, n) in
+          let early = c.later (length done) last in
+          let start = ap (λ (r : Row). r.start) (last_row done row) in
+          let same = here.moment in
+          omega (arith, early, start, same)
+        where
+          last_row : (rows : List Row) (r : Row) → row_at (rows ++ r ∷ []) (length rows) ≡ r
+          last_row [] r = refl
+          last_row (y ∷ rows) r = last_row rows r
 
-  marks_and_then : marks_and d1 rest ≡ alls
-  marks_and_then = ap (λ (ms : List Bool). ms ++ replicate (length rest) true) marks_then ∙ alls_is
+      one_sold : IsSold channels row now (with_these more assigned)
+      one_sold = record {
+        later = row_later;
+        gone_on = subst (λ ms. GoesOnBeside channels (rows_with now row) ms now (with_these more assigned)) (sym marks_more)
+            (subst (λ rs. GoesOnBeside channels rs (marks_and d more) now (with_these more assigned)) (sym rows_more) goes);
+      }
 
-  rest_sold : IsSaleOf channels all alls d1 d'
-  rest_sold = record {
-    assigned = s.assigned;
-    first_fit = s.first_fit;
-    sale = record { bookings = s.sale.bookings; carried = s.sale.carried; extended_by = then_extended };
-    day = s.day ∙ sym same_day;
-  }
+    -- ---- of the first of them there is a colouring
 
-  then_sold : IsSaleOf channels (rows_and d1 rest) (marks_and d1 rest) d1 d'
-  then_sold = subst (λ rs. IsSaleOf channels rs (marks_and d1 rest) d1 d') (sym rows_and_then) (subst (λ ms. IsSaleOf channels all ms d1 d') (sym marks_and_then) rest_sold)
+    module _ (done rest : List Row) (later : AreLater d.moment (done ++ rest)) (bookings : AreBookings (rows_and d (done ++ rest))) (fits : FitsBeside channels d (rows_and d (done ++ rest)) (marks_and d (done ++ rest))) where
+      first_later : AreLater d.moment done
+      first_later i lt =
+          let n = length-append done rest in
+          let early = later i (omega (arith, lt, n)) in
+          let start = ap (λ (r : Row). r.start) (get_or_append_left done rest no_row i lt) in
+          omega (arith, early, start)
 
-  then_fits : FitsChannels (rows_and d1 rest) (marks_and d1 rest) channels
-  then_fits = subst (λ rs. FitsChannels rs (marks_and d1 rest) channels) (sym rows_and_then) (subst (λ ms. FitsChannels all ms channels) (sym marks_and_then) fits)
+      first_bookings : AreBookings (rows_and d done)
+      first_bookings = fewer_bookings (rows_and d done) rest (subst AreBookings (sym (append_assoc (rows_of d) done rest)) bookings)
 
-  then_later : AreLater d1.moment rest
-  then_later i lt = later (suc i) (omega (arith, lt))
+      own_count : length (own_of d) ≡ length (marks_of d)
+      own_count = length-map d.entries (own_at d.moment) ∙ sym (marks_size d)
 
--- ---- all of them, in turn
+      beside_and : (more : List Row) → marks_beside (own_of d) channels (marks_and d more) ≡ marks_beside (own_of d) channels (marks_of d) ++ replicate (length more) true
+      beside_and more = beside_more (own_of d) channels (marks_of d) (replicate (length more) true) own_count
 
-sold_in_turn : (channels : List Bool) → IsChannelSet channels → (row : Row) (rest : List Row) (d d' : Day) → AreLater d.moment (row ∷ rest) → FitsChannels (rows_and d (row ∷ rest)) (marks_and d (row ∷ rest)) channels → IsSaleOf channels (rows_and d (row ∷ rest)) (marks_and d (row ∷ rest)) d d' → AreSoldInTurn channels (row ∷ rest) d d'
-sold_in_turn channels set row [] d d' later fits s = (d', record { assigned = s.assigned; first_fit = s.first_fit; sale = s.sale; day = s.day }, refl)
-sold_in_turn channels set row (next ∷ rest) d d' later fits s =
-    let middle = d1 channels set row (next ∷ rest) d later fits d' s in (
-      middle,
-      first_sold channels set row (next ∷ rest) d later fits d' s,
-      sold_in_turn channels set next rest middle d' (then_later channels set row (next ∷ rest) d later fits d' s) (then_fits channels set row (next ∷ rest) d later fits d' s) (then_sold channels set row (next ∷ rest) d later fits d' s),
-    )
+      first_fits : FitsBeside channels d (rows_and d done) (marks_and d done)
+      first_fits =
+          let own = marks_beside (own_of d) channels (marks_of d) in
+          let split : marks_beside (own_of d) channels (marks_and d (done ++ rest)) ≡ marks_beside (own_of d) channels (marks_and d done) ++ replicate (length rest) true =
+          beside_and (done ++ rest) ∙ ap (λ (ms : List Bool). own ++ ms) (marks_split done rest) ∙ sym (append_assoc own (replicate (length done) true) (replicate (length rest) true))
+          ∙ ap (λ (ms : List Bool). ms ++ replicate (length rest) true) (sym (beside_and done)) in
+          let count : length (marks_beside (own_of d) channels (marks_and d done)) ≡ length (rows_and d done) =
+          (let e = ap (λ (ms : List Bool). length ms) (beside_and done) in let a = length-append own (replicate (length done) true) in let b = length-replicate (length done) true in
+          let k = beside_size (own_of d) channels (marks_of d) own_count in let r = length-append (rows_of d) done in let m = marks_size d in let n = rows_size d in omega (arith, e, a, b, k, r, m, n)) in
+          fewer_fit channels (rows_and d done) rest (marks_beside (own_of d) channels (marks_and d done)) (replicate (length rest) true) count
+          (subst (λ rs. FitsChannels rs (marks_beside (own_of d) channels (marks_and d done) ++ replicate (length rest) true) channels) (sym (append_assoc (rows_of d) done rest))
+          (subst (λ ms. FitsChannels (rows_and d (done ++ rest)) ms channels) split fits))
+
+      found : (assigned : List (Option ℕ)) × IsColoured done assigned
+      found =
+          let f = found_beside d.moment (rows_and d done) (own_of d) channels (marks_and d done) first_bookings set numbers (begun_apart d x (rows_and d done) (marks_and d done) (keeps_and d x done first_later)) first_fits in
+          (f.0, record { later = first_later; bookings = first_bookings; fit = f.1 })
+
+    -- ---- all of them, in turn
+
+    -- the last colouring is the one that is given
+    in_turn : (done rest : List Row) (row : Row) (now : Day) → IsReached done now → (last : List (Option ℕ)) → IsColoured ((done ++ row ∷ []) ++ rest) last → FitsBeside channels d (rows_and d ((done ++ row ∷ []) ++ rest)) (marks_and d ((done ++ row ∷ []) ++ rest)) → AreSoldInTurn channels (row ∷ rest) now (with_these ((done ++ row ∷ []) ++ rest) last)
+    in_turn done [] row now here last c fits =
+        let more = done ++ row ∷ [] in
+        let is : more ++ [] ≡ more = nothing_more more in
+        subst (λ (rs : List Row). AreSoldInTurn channels (row ∷ []) now (with_these rs last)) (sym is)
+        (with_these more last, one_sold done row now here last (subst (λ (rs : List Row). IsColoured rs last) is c), refl)
+    in_turn done (next ∷ rest) row now here last c fits =
+        let more = done ++ row ∷ [] in
+        let f = found more (next ∷ rest) c.later c.bookings fits in
+        let is : (more ++ next ∷ []) ++ rest ≡ more ++ next ∷ rest = joined more rest next in (
+          with_these more f.0,
+          one_sold done row now here f.0 f.1,
+          subst (λ (rs : List Row). AreSoldInTurn channels (next ∷ rest) (with_these more f.0) (with_these rs last)) is
+              (in_turn more rest next (with_these more f.0) (reached more f.0 f.1) last (subst (λ (rs : List Row). IsColoured rs last) (sym is) c)
+              (subst (λ (rs : List Row). FitsBeside channels d (rows_and d rs) (marks_and d rs)) (sym is) fits)),
+        )
+
+-- none is sold, or there is a first
+pub all_in_turn : (channels : List Bool) → IsChannelSet channels → (rows : List Row) (d d' : Day) → IsState d → (length rows ≡ 0 → ⊥) → AreLater d.moment rows → FitsBeside channels d (rows_and d rows) (marks_and d rows) → GoesOnBeside channels (rows_and d rows) (marks_and d rows) d d' → AreSoldInTurn channels rows d d'
+all_in_turn channels set [] d d' x some later fits g = absurd (some refl)
+all_in_turn channels set (row ∷ rest) d d' x some later fits g =
+    let by_row = g.change.agrees.by_row (let a = length-append (rows_of d) (row ∷ rest) in let n = rows_size d in omega (arith, a, n)) in
+    subst (AreSoldInTurn channels (row ∷ rest) d) (sym g.day)
+    (in_turn d x channels set by_row g.service g.choices [] rest row d (at_first d x) g.assigned (record { later = later; bookings = g.change.bookings; fit = g.first_fit }) fits)
 
 -- ---- the bookings and the marks of the day after
 
+pub one_more_each : (d : Day) (row : Row) → length (marks_with d) ≡ length (rows_with d row)
+one_more_each d row =
+    let a = length-append (marks_of d) (true ∷ []) in
+    let b = length-append (rows_of d) (row ∷ []) in
+    let m = marks_size d in
+    let n = rows_size d in
+    omega (arith, a, b, m, n)
+
+pub sold_rows : (channels : List Bool) (row : Row) (d d' : Day) → IsSold channels row d d' → rows_of d' ≡ rows_with d row
+sold_rows channels row d d' s = rows_then channels (rows_with d row) (marks_with d) d d' (one_more_each d row) s.gone_on
+
+pub sold_marks : (channels : List Bool) (row : Row) (d d' : Day) → IsSold channels row d d' → marks_of d' ≡ marks_with d
+sold_marks channels row d d' s = marks_then channels (rows_with d row) (marks_with d) d d' (one_more_each d row) s.gone_on
+
 pub rows_in_turn : (channels : List Bool) (rows : List Row) (d d' : Day) → AreSoldInTurn channels rows d d' → rows_of d' ≡ rows_and d rows
-rows_in_turn channels [] d d' is = ap rows_of is ∙ sym (no_more (rows_of d))
-  where
-    no_more : (xs : List Row) → xs ++ [] ≡ xs
-    no_more [] = refl
-    no_more (x ∷ xs) = ap (λ ys. x ∷ ys) (no_more xs)
+rows_in_turn channels [] d d' is = ap rows_of is ∙ sym (nothing_more (rows_of d))
 rows_in_turn channels (row ∷ rows) d d' (sold, one, more) =
-    rows_in_turn channels rows sold d' more ∙ ap (λ (rs : List Row). rs ++ rows) (rows_sold_with channels row d sold one) ∙ joined (rows_of d) rows row
+    rows_in_turn channels rows sold d' more ∙ ap (λ (rs : List Row). rs ++ rows) (sold_rows channels row d sold one) ∙ joined (rows_of d) rows row
 
 pub marks_in_turn : (channels : List Bool) (rows : List Row) (d d' : Day) → AreSoldInTurn channels rows d d' → marks_of d' ≡ marks_and d rows
-marks_in_turn channels [] d d' is = ap marks_of is ∙ sym (no_more (marks_of d))
-  where
-    no_more : (xs : List Bool) → xs ++ [] ≡ xs
-    no_more [] = refl
-    no_more (x ∷ xs) = ap (λ ys. x ∷ ys) (no_more xs)
+marks_in_turn channels [] d d' is = ap marks_of is ∙ sym (nothing_more (marks_of d))
 marks_in_turn channels (row ∷ rows) d d' (sold, one, more) =
-    marks_in_turn channels rows sold d' more ∙ ap (λ (ms : List Bool). ms ++ replicate (length rows) true) (marks_sold_with channels row d sold one) ∙ joined (marks_of d) (replicate (length rows) true) true
-
--- none is sold, or there is a first
-pub all_in_turn : (channels : List Bool) → IsChannelSet channels → (rows : List Row) (d d' : Day) → (length rows ≡ 0 → ⊥) → AreLater d.moment rows → FitsChannels (rows_and d rows) (marks_and d rows) channels → IsSaleOf channels (rows_and d rows) (marks_and d rows) d d' → AreSoldInTurn channels rows d d'
-all_in_turn channels set [] d d' some later fits s = absurd (some refl)
-all_in_turn channels set (row ∷ rest) d d' some later fits s = sold_in_turn channels set row rest d d' later fits s
+    marks_in_turn channels rows sold d' more ∙ ap (λ (ms : List Bool). ms ++ replicate (length rows) true) (sold_marks channels row d sold one) ∙ joined (marks_of d) (replicate (length rows) true) true

@@ -1,18 +1,20 @@
-pub mod FirstFit
-mod Told
-pub mod Journal
-mod ExtendedBy
-mod Sales
-mod Changes
-mod Firsts
-pub mod StayingFirst
+pub mod Places
 pub mod Beside
+pub mod Keeping
+mod Still
+pub mod GoneOn
+pub mod PlanDays
+mod Told
+mod Changes
 pub mod Fitting
+pub mod Rows
+pub mod LeftOver
+pub mod Journal
+mod OneDay
 mod Tags
 mod RowLines
 mod RowChanges
-pub mod Rows
-pub mod OneMore
-mod FreeChannels
-mod FirstFitFound
+mod Again
+mod FoundBeside
 pub mod InTurn
+pub mod Noting

@@ -1,19 +1,13 @@
 -- What is known of a row that may be given up or changed.
-use Rattle.std.proofs.Common.{◌≡◌, ℕ, ◌-◌, ◌<◌, List, length, Result, Ok, Err, OnOk, sym, subst, ap, ◌∙◌, arith}
-use Rattle.bx_base.specs.Bookings.{Row, row_at}
+use Rattle.std.proofs.Common.{◌≡◌, ℕ, ◌-◌, ◌<◌, List, length, Result, Ok, Err, OnOk, subst, ap, ◌∙◌, arith}
+use Rattle.bx_base.specs.Bookings.{Row}
 use Rattle.bx_day.specs.Day.{Day, entry_at}
 use Rattle.bx_day.specs.declared.entry.Entry.{Entry}
 use Rattle.bx_sales.specs.Changing.{IsPromised, MayBecome, MayBeChanged}
-use Rattle.bx_sales.specs.Selling.{rows_of}
-use Rattle.bx_sales.proofs.StayingFirst.{row_there}
 
 pub ok_then : {A E P Q : Type 0} (r : Result A E) → (P → Q) → OnOk r P → OnOk r Q
 ok_then (Ok a) f p = f p
 ok_then (Err e) f p = tt
-
-pub ok_both : {A E P Q R : Type 0} (r : Result A E) → OnOk r P → OnOk r Q → (P → Q → R) → OnOk r R
-ok_both (Ok a) p q f = f p q
-ok_both (Err e) p q f = tt
 
 module _ (d : Day) (row : ℕ) (promised : IsPromised d.entries row) where
   -- what stands at the row
@@ -22,9 +16,8 @@ module _ (d : Day) (row : ℕ) (promised : IsPromised d.entries row) where
       let n = ap (λ (xs : List Entry). length xs) same in
       there (omega (arith, promised.named, promised.inside, n)) ∙ ap (λ (xs : List Entry). entry_at xs (row - 1)) same
 
-  pub may_there : (t : ℕ) (old : Row) (b : Row) → t ≡ d.moment → old ≡ (entry_at d.entries (row - 1)).booking → MayBecome t old b → MayBeChanged d row b
-  may_there t old b now there may = record {
+  pub may_there : (t : ℕ) (e : Entry) (b : Row) → t ≡ d.moment → e ≡ entry_at d.entries (row - 1) → MayBecome t e b → MayBeChanged d row b
+  may_there t e b now there may = record {
     promised = promised;
-    may = subst (λ (m : ℕ). MayBecome m (row_at (rows_of d) (row - 1)) b) now
-        (subst (λ (r : Row). MayBecome t r b) (there ∙ sym (row_there d.entries (row - 1) (omega (arith, promised.named, promised.inside)))) may);
+    may = subst (λ (m : ℕ). MayBecome m (entry_at d.entries (row - 1)) b) now (subst (λ (x : Entry). MayBecome t x b) there may);
   }

@@ -1,5 +1,5 @@
 -- Which bookings a day has accepted, by the channels of its plan.
-use Rattle.std.proofs.Common.{◌≡◌, ℕ, suc, ◌<◌, not, Bool, false, List, [], ◌∷◌, map, is_some, length, get_or, Option, arith, refl, sym, ap, ap₂, ◌∙◌}
+use Rattle.std.proofs.Common.{◌≡◌, ℕ, suc, ◌<◌, not, Bool, true, false, List, [], ◌∷◌, map, is_some, length, get_or, Option, arith, refl, sym, ap, ap₂, ◌∙◌}
 use Rattle.std.proofs.lemmas.List.{length-map}
 use Rattle.bx_base.specs.Bookings.{Row, AreBookings, Carries}
 use Rattle.bx_base.specs.Plans.{is_accepted, channel_at}
@@ -8,12 +8,16 @@ use Rattle.bx_colour.proofs.FirstFitStays.{marked}
 use Rattle.bx_day.specs.Day.{opening}
 use Rattle.bx_day.specs.Outages.{live_day_after}
 use Rattle.bx_events.specs.Events.{LiveEvent}
-use Rattle.bx_sales.proofs.ExtendedBy.{size, frame_at}
+use Rattle.bx_sales.proofs.PlanDays.{size, frame_at}
 use Rattle.bx_sales.proofs.Fitting.{marked_so}
-use Rattle.bx_sales.proofs.Told.{twice_not, same_marks}
+use Rattle.bx_sales.proofs.GoneOn.{same_marks}
 use Rattle.bx_sales.specs.Selling.{marks_of}
 
-same_bools : (xs ys : List Bool) → length xs ≡ length ys → ((i : ℕ) → i < length ys → get_or xs i false ≡ get_or ys i false) → xs ≡ ys
+twice_not : (b : Bool) → not (not b) ≡ b
+twice_not true = refl
+twice_not false = refl
+
+pub same_bools : (xs ys : List Bool) → length xs ≡ length ys → ((i : ℕ) → i < length ys → get_or xs i false ≡ get_or ys i false) → xs ≡ ys
 same_bools [] [] count same = refl
 same_bools [] (y ∷ ys) count same = absurd (omega (arith, count))
 same_bools (x ∷ xs) [] count same = absurd (omega (arith, count))

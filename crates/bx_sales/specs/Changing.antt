@@ -1,26 +1,12 @@
 -- A booking of the day that is given up, and one that becomes another.
-use Rattle.std.specs.Prelude.{◌≡◌, ◌⊎◌, ◌≤◌, ◌<◌, ℕ, ◌-◌, Bool, false, List, Option, length, slice_set}
-use Rattle.bx_base.specs.Bookings.{Row, row_at}
-use Rattle.bx_colour.specs.Colouring.{IsFirstFit, FitsChannels}
-use Rattle.bx_day.specs.Changed.{changed, AgreesWith}
+use Rattle.std.specs.Prelude.{◌≡◌, ◌⊎◌, ◌≤◌, ◌<◌, ℕ, ◌-◌, Bool, false, List, length, slice_set}
+use Rattle.bx_base.specs.Bookings.{Row}
+use Rattle.bx_day.specs.Changed.{IsOverBy}
 use Rattle.bx_day.specs.Day.{Day, entry_at}
 use Rattle.bx_day.specs.Invariant.{is_refused}
 use Rattle.bx_day.specs.declared.entry.Entry.{Entry}
-use Rattle.bx_sales.specs.Changes.{IsChange}
+use Rattle.bx_sales.specs.GoingOn.{GoesOnBeside, FitsBeside}
 use Rattle.bx_sales.specs.Selling.{rows_of, marks_of}
-
--- the day goes on with these bookings, of which the marked ones are accepted, all coloured first fit
-pub record IsRecoloured (channels : List Bool) (rows : List Row) (marks : List Bool) (old new : Day) : Type 0 where
-  pub assigned : List (Option ℕ)
-  pub first_fit : IsFirstFit rows channels marks assigned
-  pub change : IsChange channels old rows assigned
-  pub day : new ≡ changed rows assigned old
-
--- the first-fit plan of these is none that the day goes on with: what has begun would get another channel, or would not be accepted
-pub record IsOtherColouring (channels : List Bool) (rows : List Row) (marks : List Bool) (d : Day) : Type 0 where
-  pub assigned : List (Option ℕ)
-  pub first_fit : IsFirstFit rows channels marks assigned
-  pub not_agreed : ¬ AgreesWith d rows assigned
 
 -- the booking of a row, where rows are named 1, 2, .., is promised
 pub record IsPromised (entries : List Entry) (row : ℕ) : Type 0 where
@@ -42,28 +28,24 @@ pub record MayBeCancelled (d : Day) (row : ℕ) : Type 0 where
   pub promised : IsPromised d.entries row
   pub ahead : d.moment < (entry_at d.entries (row - 1)).booking.start
 
--- the first-fit plan without it is none that the day goes on with
-pub record MovesByCancel (channels : List Bool) (d : Day) (row : ℕ) : Type 0 where
-  pub may : MayBeCancelled d row
-  pub other : IsOtherColouring channels (rows_of d) (marks_without d row) d
-
 -- a booking of a row is given up: all others go on
 pub record IsCancelled (channels : List Bool) (row : ℕ) (old new : Day) : Type 0 where
   pub may : MayBeCancelled old row
-  pub recoloured : IsRecoloured channels (rows_of old) (marks_without old row) old new
+  pub gone_on : GoesOnBeside channels (rows_of old) (marks_without old row) old new
 
 -- what a booking may become at moment t: one that starts later, where its own start is yet to come; else the same call with another end, or another
--- pay, where both ends are yet to come
-pub record HasOtherEnd (t : ℕ) (old new : Row) : Type 0 where
-  pub begun : old.start ≤ t
-  pub start : new.start ≡ old.start
-  pub number : new.number ≡ old.number
-  pub inward : new.inward ≡ old.inward
-  pub running : t < old.end
+-- pay, where both ends are yet to come and the call, where it is over, was so by the new one
+pub record HasOtherEnd (t : ℕ) (e : Entry) (new : Row) : Type 0 where
+  pub begun : e.booking.start ≤ t
+  pub start : new.start ≡ e.booking.start
+  pub number : new.number ≡ e.booking.number
+  pub inward : new.inward ≡ e.booking.inward
+  pub running : t < e.booking.end
   pub later : t < new.end
+  pub over : IsOverBy e.standing new.end
 
-abbrev pub MayBecome : ℕ → Row → Row → Type 0
-MayBecome t old new = ((t < old.start) × (t < new.start)) ⊎ HasOtherEnd t old new
+abbrev pub MayBecome : ℕ → Entry → Row → Type 0
+MayBecome t e new = ((t < e.booking.start) × (t < new.start)) ⊎ HasOtherEnd t e new
 
 -- the bookings with another one in a row
 abbrev pub rows_changed_in : List Row → ℕ → Row → List Row
@@ -72,23 +54,22 @@ rows_changed_in rows row b = slice_set rows (row - 1) b
 -- it may become this one
 pub record MayBeChanged (d : Day) (row : ℕ) (b : Row) : Type 0 where
   pub promised : IsPromised d.entries row
-  pub may : MayBecome d.moment (row_at (rows_of d) (row - 1)) b
+  pub may : MayBecome d.moment (entry_at d.entries (row - 1)) b
 
 -- it is promised, and may not
 pub record MayNotBecome (d : Day) (row : ℕ) (b : Row) : Type 0 where
   pub promised : IsPromised d.entries row
-  pub may_not : ¬ MayBecome d.moment (row_at (rows_of d) (row - 1)) b
+  pub may_not : ¬ MayBecome d.moment (entry_at d.entries (row - 1)) b
 
 -- all fit on the channels with this one in its place
 abbrev pub FitsChanged : List Bool → Day → ℕ → Row → Type 0
-FitsChanged channels d row b = FitsChannels (rows_changed_in (rows_of d) row b) (marks_of d) channels
+FitsChanged channels d row b = FitsBeside channels d (rows_changed_in (rows_of d) row b) (marks_of d)
 
--- the first-fit plan with this one in its place is none that the day goes on with
-pub record MovesByChange (channels : List Bool) (d : Day) (row : ℕ) (b : Row) : Type 0 where
-  pub may : MayBeChanged d row b
-  pub other : IsOtherColouring channels (rows_changed_in (rows_of d) row b) (marks_of d) d
+-- and without it
+abbrev pub FitsWithout : List Bool → Day → ℕ → Type 0
+FitsWithout channels d row = FitsBeside channels d (rows_of d) (marks_without d row)
 
 -- a booking of a row becomes another one: all go on
 pub record IsRowChanged (channels : List Bool) (row : ℕ) (b : Row) (old new : Day) : Type 0 where
   pub may : MayBeChanged old row b
-  pub recoloured : IsRecoloured channels (rows_changed_in (rows_of old) row b) (marks_of old) old new
+  pub gone_on : GoesOnBeside channels (rows_changed_in (rows_of old) row b) (marks_of old) old new

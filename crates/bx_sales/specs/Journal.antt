@@ -1,13 +1,15 @@
 -- A journal that has amendments among its events tells the last plan and the day.
-use Rattle.std.specs.Prelude.{◌≡◌, ℕ, Bool, List, [], ◌∷◌, length, map, Option, is_some}
+use Rattle.std.specs.Prelude.{◌≡◌, ℕ, Bool, true, false, List, [], ◌∷◌, length, map, Option, is_some}
 use Rattle.bx_base.specs.Bookings.{Row, AreBookings, Carries}
+use Rattle.bx_base.specs.Channels.{has_channel}
 use Rattle.bx_base.specs.Plans.{is_accepted, channel_at}
+use Rattle.bx_channels.specs.Marks.{is_marked}
 use Rattle.bx_colour.specs.Colouring.{IsFirstFit}
 use Rattle.bx_day.specs.Day.{Day, opening}
 use Rattle.bx_day.specs.Outages.{live_happens, live_day_after}
 use Rattle.bx_events.specs.Events.{LiveEvent, OnLink, WithoutLink, Amended, HeardByRulesTwo}
 use Rattle.bx_events.specs.declared.amendment.Amendment.{Amendment}
-use Rattle.bx_events.specs.declared.amendment.Amendment.TheVariants.{Sold}
+use Rattle.bx_events.specs.declared.amendment.Amendment.TheVariants.{Sold, SoldByRulesTwo}
 use Rattle.bx_sales.specs.Amending.{AmendsDay, rows_amended, marks_amended}
 use Rattle.bx_sales.specs.Selling.{rows_of, marks_of}
 use Rattle.bx_sales.specs.Tags.{row_behind}
@@ -15,6 +17,7 @@ use Rattle.bx_sales.specs.Tags.{row_behind}
 -- the bookings that were sold, by what their lines say
 abbrev pub sold_by : (List ℕ → Row) → Amendment → List ℕ → List Row → List Row
 sold_by row_on Sold line rows = row_behind row_on line ∷ rows
+sold_by row_on SoldByRulesTwo line rows = row_behind row_on line ∷ rows
 sold_by row_on _ line rows = rows
 
 abbrev pub sold_in : (List ℕ → Row) → List LiveEvent → List Row
@@ -47,11 +50,15 @@ RunsThrough channels row_on (OnLink event ∷ events) old new = RunsThrough chan
 RunsThrough channels row_on (WithoutLink rules ∷ events) old new = RunsThrough channels row_on events (live_happens old (WithoutLink rules)).day new
 RunsThrough channels row_on (HeardByRulesTwo octets ∷ events) old new = RunsThrough channels row_on events (live_happens old (HeardByRulesTwo octets)).day new
 
--- the plan of the morning as the journal amends it, coloured once, has the day by just these events
+-- none of these channels is lost
+abbrev pub AreAllLeft : List Bool → Day → Type 0
+AreAllLeft channels d = (c : ℕ) → has_channel channels c ≡ true → is_marked d.maintenance c ≡ false
+
+-- the plan of the morning as the journal amends it, coloured once, has the day by just these events, where no channel was lost
 abbrev pub IsToldByJournal : Type 0
 IsToldByJournal = (channels : List Bool) (row_on : List ℕ → Row) (rows : List Row) (accepted : List Bool) (assigned : List (Option ℕ)) (events : List LiveEvent) (d : Day) →
     length accepted ≡ length rows → AreBookings rows → Carries rows channels (is_accepted assigned) (channel_at assigned) → IsFirstFit rows channels accepted assigned →
-    RunsThrough channels row_on events (opening rows assigned) d →
+    RunsThrough channels row_on events (opening rows assigned) d → AreAllLeft channels d →
     (last : List (Option ℕ)) → IsFirstFit (rows_after row_on events rows) channels (marks_after events accepted) last →
     d ≡ live_day_after events (opening (rows_after row_on events rows) last)
 
@@ -71,3 +78,8 @@ abbrev pub HasAmendedPlan : Type 0
 HasAmendedPlan = (channels : List Bool) (row_on : List ℕ → Row) (rows : List Row) (assigned : List (Option ℕ)) (events : List LiveEvent) (d : Day) →
     length assigned ≡ length rows → AreBookings rows → Carries rows channels (is_accepted assigned) (channel_at assigned) → RunsThrough channels row_on events (opening rows assigned) d →
     HasLastPlan channels (rows_after row_on events rows) (marks_after events (map is_some assigned)) events d
+
+-- a journal leads from a day to one other day
+abbrev pub IsOneDayByJournal : Type 0
+IsOneDayByJournal = (channels : List Bool) (row_on : List ℕ → Row) (events : List LiveEvent) (old new new' : Day) →
+    RunsThrough channels row_on events old new → RunsThrough channels row_on events old new' → new' ≡ new

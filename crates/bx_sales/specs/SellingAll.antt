@@ -1,9 +1,7 @@
 -- Bookings that are sold in one step.
-use Rattle.std.specs.Prelude.{◌<◌, ℕ, Bool, true, List, ◌++◌, length, replicate, Option}
+use Rattle.std.specs.Prelude.{◌<◌, ℕ, Bool, true, List, ◌++◌, length, replicate}
 use Rattle.bx_base.specs.Bookings.{Row, row_at}
-use Rattle.bx_colour.specs.Colouring.{IsFirstFit}
 use Rattle.bx_day.specs.Day.{Day}
-use Rattle.bx_day.specs.Extended.{IsExtendedBy}
 use Rattle.bx_sales.specs.Selling.{rows_of, marks_of}
 
 -- each of these bookings starts after moment t
@@ -16,9 +14,3 @@ rows_and d rows = rows_of d ++ rows
 
 abbrev pub marks_and : Day → List Row → List Bool
 marks_and d rows = marks_of d ++ replicate (length rows) true
-
--- the first-fit plan of these bookings is none that the day goes on with: one that has started would get another channel
-pub record IsOtherSaleOf (channels : List Bool) (rows : List Row) (marks : List Bool) (d : Day) : Type 0 where
-  pub assigned : List (Option ℕ)
-  pub first_fit : IsFirstFit rows channels marks assigned
-  pub not_extended : ¬ IsExtendedBy d rows assigned

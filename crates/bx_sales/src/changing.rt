@@ -1,14 +1,14 @@
 //! A booking of the day that is given up before its start, and one that becomes another.
 
-ghost use Rattle.std.specs.Prelude.{◌≡◌, ◌↔◌, OnOk, OnErr, IsTrue, Err};
-ghost use Rattle.bx_colour.specs.Colouring.{FitsChannels};
-ghost use Rattle.bx_sales.specs.Selling.{rows_of};
-ghost use Rattle.bx_sales.specs.Changing.{IsRecoloured, IsOtherColouring, IsPromised, HasStarted, IsCancelled, IsRowChanged, MayBecome, MayNotBecome, MovesByCancel, MovesByChange, FitsChanged, marks_without};
+ghost use Rattle.std.specs.Prelude.{◌≡◌, ◌↔◌, OnOk, OnErr, IsTrue, Err, length};
+ghost use Rattle.bx_colour.specs.ChangedRows.{HasNoFirstFit};
+ghost use Rattle.bx_sales.specs.GoingOn.{own_of, KeepsBegun, GoesOnBeside, FitsBeside};
+ghost use Rattle.bx_sales.specs.Changing.{IsPromised, HasStarted, IsCancelled, IsRowChanged, MayBecome, MayNotBecome, FitsChanged, FitsWithout};
 
-use crate::listing::{is_accepted, marks_of, marks_without, rows_changed, rows_of};
-use bx_base::{Booking, Bookings, ChannelSet, Plan};
-use bx_colour::{colour, fits};
-use bx_day::{Entry, Exchange, NoExtension};
+use crate::going_on::{NotGoneOn, go_on_beside};
+use crate::listing::{marks_of, marks_without, rows_changed, rows_of};
+use bx_base::{Booking, Bookings, ChannelSet};
+use bx_day::{Entry, Exchange};
 use std::alloc::Global;
 use thiserror::Error;
 
@@ -24,59 +24,49 @@ pub enum NoChange {
     /// At some moment more would run than there are channels.
     #[error("NoChannel")]
     NoChannel,
-    /// The channels of the day are not those of first fit, and a booking that has started would get another one.
-    #[error("OtherChannels")]
-    OtherChannels,
     /// Memory ran out.
     #[error("Memory")]
     Memory,
 }
 
-/// Goes on with these bookings, of which the marked ones are accepted, all coloured first fit. A refusal changes nothing.
-fn go_on_with(
+/// Goes on with as many bookings as the day has. A refusal changes nothing.
+pub(crate) fn go_on_changed(
     alloc: Global,
     exchange: &mut Exchange,
     channels: ChannelSet,
     bookings: Bookings,
     marks: &[bool],
 ) -> Result<(), NoChange>
-    ensures recoloured { OnOk result (IsRecoloured channels bookings marks.now exchange.old exchange.new) }
+    requires count { length marks.now ≡ length bookings }
+    requires same { length bookings ≡ length exchange.old.entries }
+    requires keeps { KeepsBegun exchange.old bookings marks.now }
+    ensures gone_on { OnOk result (GoesOnBeside channels bookings marks.now exchange.old exchange.new) }
     ensures kept { OnErr result (exchange.new ≡ exchange.old) }
-    ensures no_channel { (result ≡ Err NoChange.NoChannel) ↔ (¬ FitsChannels bookings marks.now channels) }
-    ensures other { result ≡ Err NoChange.OtherChannels → IsOtherColouring channels bookings marks.now exchange.old }
+    ensures no_channel { result ≡ Err NoChange.NoChannel → ¬ FitsBeside channels exchange.old bookings marks.now }
+    ensures none { result ≡ Err NoChange.NoChannel → HasNoFirstFit bookings (own_of exchange.old) channels marks.now }
     ensures booking { ¬ (result ≡ Err NoChange.NoBooking) }
     ensures late { ¬ (result ≡ Err NoChange.Late) }
 {
-    // Read for the prover alone, which learns a limit from it.
-    let _rows = bookings.len();
-    if !fits(&bookings, marks, channels) {
-        return Err(NoChange::NoChannel);
-    }
-    let Ok(assigned) = colour(alloc, &bookings, marks, channels) else {
-        return Err(NoChange::Memory);
-    };
-    let Some(plan) = Plan::new(bookings, channels, assigned, Vec::new(alloc), 0) else {
-        unreachable!()
-    };
-    match exchange.go_on(alloc, &plan) {
+    match go_on_beside(alloc, exchange, channels, bookings, marks) {
         Ok(()) => Ok(()),
-        Err(NoExtension::OtherPlan) => Err(NoChange::OtherChannels),
-        Err(NoExtension::Memory) => Err(NoChange::Memory),
+        Err(NotGoneOn::NoChannel) => Err(NoChange::NoChannel),
+        Err(NotGoneOn::TookOver) => unreachable!(),
+        Err(NotGoneOn::Memory) => Err(NoChange::Memory),
     }
 }
 
 /// Whether the booking of a row is promised.
-fn is_promised(entries: &[Entry], row: u16) -> bool
+pub(crate) fn is_promised(entries: &[Entry], row: u16) -> bool
     ensures { IsTrue result ↔ IsPromised entries.now row }
 {
     if row == 0 || row as usize > entries.len() {
         return false;
     }
-    is_accepted(entries[row as usize - 1].standing)
+    !entries[row as usize - 1].standing.is_refused()
 }
 
-/// Gives up the promised booking of a row whose start has not come: it is refused from now on, and all others are coloured first fit, so that what it
-/// leaves may be sold again. What has started keeps its channel. `NoBooking` is tested first, then `Late`. A refusal changes nothing.
+/// Gives up the promised booking of a row whose start has not come: it is refused from now on, and all others that wait are coloured first fit, so that
+/// what it leaves may be sold again. What has begun keeps its channel. `NoBooking` is tested first, then `Late`. A refusal changes nothing.
 pub fn cancel(
     alloc: Global,
     exchange: &mut Exchange,
@@ -87,8 +77,7 @@ pub fn cancel(
     ensures kept { OnErr result (exchange.new ≡ exchange.old) }
     ensures none { (result ≡ Err NoChange.NoBooking) ↔ (¬ IsPromised exchange.old.entries row) }
     ensures late { (result ≡ Err NoChange.Late) ↔ HasStarted exchange.old row }
-    ensures no_channel { result ≡ Err NoChange.NoChannel → ¬ FitsChannels (rows_of exchange.old) (marks_without exchange.old row) channels }
-    ensures other { result ≡ Err NoChange.OtherChannels → MovesByCancel channels exchange.old row }
+    ensures no_channel { result ≡ Err NoChange.NoChannel → ¬ FitsWithout channels exchange.old row }
 {
     let moment = exchange.moment();
     if !is_promised(exchange.entries(), row) {
@@ -104,14 +93,15 @@ pub fn cancel(
     let Ok(marks) = marks_without(alloc, exchange.entries(), place) else {
         return Err(NoChange::Memory);
     };
-    go_on_with(alloc, exchange, channels, bookings, &marks)
+    go_on_changed(alloc, exchange, channels, bookings, &marks)
 }
 
 /// Whether a booking may become another one now: one that starts later, where its own start is yet to come; else the same call with an end that is yet
 /// to come, as its own is.
-fn may_become(moment: u32, booking: Booking, other: Booking) -> bool
-    ensures { IsTrue result ↔ MayBecome moment booking other }
+fn may_become(moment: u32, entry: &Entry, other: Booking) -> bool
+    ensures { IsTrue result ↔ MayBecome moment entry.now other }
 {
+    let booking = entry.booking;
     if booking.start() > moment {
         return other.start() > moment;
     }
@@ -120,11 +110,12 @@ fn may_become(moment: u32, booking: Booking, other: Booking) -> bool
         && other.is_inward() == booking.is_inward()
         && booking.end() > moment
         && other.end() > moment
+        && entry.standing.is_over_by(other.end())
 }
 
 /// Makes of the promised booking of a row another one: before its start whatever starts later; of a call whose start has come the same with another
-/// end or pay, where both ends are later than now. All are coloured first fit; what has started keeps its channel. `NoBooking` is tested first, then
-/// `Late`. A refusal changes nothing.
+/// end or pay, where both ends are later than now. What has begun keeps its channel, and all that waits is coloured first fit. `NoBooking` is tested first,
+/// then `Late`. A refusal changes nothing.
 pub fn change(
     alloc: Global,
     exchange: &mut Exchange,
@@ -137,14 +128,13 @@ pub fn change(
     ensures none { (result ≡ Err NoChange.NoBooking) ↔ (¬ IsPromised exchange.old.entries row) }
     ensures late { (result ≡ Err NoChange.Late) ↔ MayNotBecome exchange.old row booking }
     ensures no_channel { result ≡ Err NoChange.NoChannel → ¬ FitsChanged channels exchange.old row booking }
-    ensures other { result ≡ Err NoChange.OtherChannels → MovesByChange channels exchange.old row booking }
 {
     let moment = exchange.moment();
     if !is_promised(exchange.entries(), row) {
         return Err(NoChange::NoBooking);
     }
     let place = row as usize - 1;
-    if !may_become(moment, exchange.entries()[place].booking, booking) {
+    if !may_become(moment, &exchange.entries()[place], booking) {
         return Err(NoChange::Late);
     }
     let Ok(bookings) = rows_changed(alloc, exchange.entries(), place, booking) else {
@@ -153,5 +143,5 @@ pub fn change(
     let Ok(marks) = marks_of(alloc, exchange.entries()) else {
         return Err(NoChange::Memory);
     };
-    go_on_with(alloc, exchange, channels, bookings, &marks)
+    go_on_changed(alloc, exchange, channels, bookings, &marks)
 }

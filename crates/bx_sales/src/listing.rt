@@ -6,7 +6,7 @@ ghost use Rattle.bx_base.specs.declared.bookings.TheConstants.{MAX_BOOKINGS};
 ghost use Rattle.bx_day.specs.Invariant.{is_refused};
 
 use bx_base::{AddFault, Booking, Bookings};
-use bx_day::{Entry, Standing};
+use bx_day::Entry;
 use std::alloc::{AllocError, Global};
 
 /// The bookings of these entries, and one more.
@@ -32,7 +32,7 @@ pub(crate) fn marks_with(alloc: Global, entries: &[Entry]) -> Result<Vec<bool>, 
 {
     let mut marks = Vec::new(alloc);
     for index in 0..entries.len() {
-        marks.push(is_accepted(entries[index].standing))?;
+        marks.push(!entries[index].standing.is_refused())?;
     }
     marks.push(true)?;
     Ok(marks)
@@ -117,7 +117,7 @@ pub(crate) fn marks_of(alloc: Global, entries: &[Entry]) -> Result<Vec<bool>, Al
 {
     let mut marks = Vec::new(alloc);
     for index in 0..entries.len() {
-        let is_marked = is_accepted(entries[index].standing);
+        let is_marked = !entries[index].standing.is_refused();
         marks.push(is_marked)?;
     }
     Ok(marks)
@@ -150,13 +150,4 @@ pub(crate) fn marks_without(
     let mut marks = marks_of(alloc, entries)?;
     marks[place] = false;
     Ok(marks)
-}
-
-pub(crate) fn is_accepted(standing: Standing) -> bool
-    ensures { result ≡ not (is_refused standing) }
-{
-    match standing {
-        Standing::Refused => false,
-        _ => true,
-    }
 }

@@ -1,9 +1,10 @@
-//! The lines that name a booking of the day by its row.
+//! The lines that name a booking of the day by its row, or a channel.
 
 ghost use Rattle.std.specs.Prelude.{◌≡◌, ◌≤◌, ◌++◌, ◌∷◌, length, decimal};
 ghost use Rattle.bx_sales.specs.Amending.{row_numbered, row_named, behind_row};
 
 use crate::tag::put;
+use bx_channels::Channel;
 use bx_journal::AmendedLine;
 use itoa::Buffer;
 
@@ -15,6 +16,14 @@ pub fn cancel_line(row: u16) -> AmendedLine
     let mut line = AmendedLine::new();
     put(&mut line, Buffer::new().format(row).as_bytes());
     line
+}
+
+/// The line of a channel that is left: its number.
+pub fn out_line(channel: Channel) -> AmendedLine
+    ensures text { result.items ≡ decimal channel }
+    ensures again { row_numbered result.items ≡ channel }
+{
+    cancel_line(channel.number() as u16)
 }
 
 /// The line of a booking that becomes another one, which a text of at most 128 octets tells: its row, a space and that text.

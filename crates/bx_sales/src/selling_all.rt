@@ -2,17 +2,17 @@
 
 ghost use Rattle.std.specs.Prelude.{◌≡◌, ◌<◌, ◌+◌, ◌↔◌, OnOk, OnErr, IsTrue, Err, length};
 ghost use Rattle.bx_base.specs.declared.bookings.TheConstants.{MAX_BOOKINGS};
-ghost use Rattle.bx_colour.specs.Colouring.{FitsChannels};
+ghost use Rattle.bx_day.specs.Changed.{AreReferredByRow};
+ghost use Rattle.bx_sales.specs.GoingOn.{FitsBeside};
 ghost use Rattle.bx_sales.specs.Selling.{rows_of, marks_of};
-ghost use Rattle.bx_sales.specs.SellingAll.{AreLater, rows_and, marks_and, IsOtherSaleOf};
-ghost use Rattle.bx_sales.specs.SoldTogether.{IsSaleOf};
+ghost use Rattle.bx_sales.specs.SellingAll.{AreLater, rows_and, marks_and};
 ghost use Rattle.bx_sales.specs.Sold.{AreSoldInTurn};
 
+use crate::going_on::{NotGoneOn, go_on_beside};
 use crate::listing::{marks_and, rows_and};
 use crate::selling::NoSale;
-use bx_base::{AddFault, Bookings, ChannelSet, Plan};
-use bx_colour::{colour, fits};
-use bx_day::{Exchange, NoExtension};
+use bx_base::{AddFault, Bookings, ChannelSet};
+use bx_day::Exchange;
 use std::alloc::Global;
 
 /// Whether each of these bookings starts after this moment.
@@ -27,43 +27,9 @@ fn are_later(rows: &Bookings, moment: u32) -> bool
     true
 }
 
-/// Goes on with these bookings, of which the marked ones are accepted, all coloured first fit. A refusal changes nothing.
-fn extend_by(
-    alloc: Global,
-    exchange: &mut Exchange,
-    channels: ChannelSet,
-    bookings: Bookings,
-    marks: &[bool],
-) -> Result<(), NoSale>
-    ensures sold { OnOk result (IsSaleOf channels bookings marks.now exchange.old exchange.new) }
-    ensures kept { OnErr result (exchange.new ≡ exchange.old) }
-    ensures no_channel { result ≡ Err NoSale.NoChannel → ¬ FitsChannels bookings marks.now channels }
-    ensures fitting { OnOk result (FitsChannels bookings marks.now channels) }
-    ensures other { result ≡ Err NoSale.OtherChannels → IsOtherSaleOf channels bookings marks.now exchange.old }
-    ensures late { ¬ (result ≡ Err NoSale.Late) }
-    ensures full { ¬ (result ≡ Err NoSale.Full) }
-{
-    // Read for the prover alone, which learns a limit from it.
-    let _rows = bookings.len();
-    if !fits(&bookings, marks, channels) {
-        return Err(NoSale::NoChannel);
-    }
-    let Ok(assigned) = colour(alloc, &bookings, marks, channels) else {
-        return Err(NoSale::Memory);
-    };
-    let Some(plan) = Plan::new(bookings, channels, assigned, Vec::new(alloc), 0) else {
-        unreachable!()
-    };
-    match exchange.extend(alloc, &plan) {
-        Ok(()) => Ok(()),
-        Err(NoExtension::OtherPlan) => Err(NoSale::OtherChannels),
-        Err(NoExtension::Memory) => Err(NoSale::Memory),
-    }
-}
-
 /// Sells bookings of the day that runs in one step, as `sell` would one after another, where each starts later and all fit on the channels beside all
-/// that is promised: they stand after the bookings of the day, as accepted, and all are coloured first fit, once. None of them is sold where not all
-/// are: a refusal changes nothing. `Late`, where one starts by now, is tested first. Time n log n in the bookings of the day with these.
+/// that is promised: they stand after the bookings of the day, as accepted, and what has not begun is coloured first fit, once. None of them is sold where
+/// not all are: a refusal changes nothing. `Late`, where one starts by now, is tested first. Time n log n in the bookings of the day with these.
 pub fn sell_all(
     alloc: Global,
     exchange: &mut Exchange,
@@ -75,8 +41,8 @@ pub fn sell_all(
     ensures kept { OnErr result (exchange.new ≡ exchange.old) }
     ensures late { (result ≡ Err NoSale.Late) ↔ (¬ AreLater exchange.old.moment rows.now) }
     ensures full { result ≡ Err NoSale.Full → MAX_BOOKINGS < length exchange.old.entries + length rows.now }
-    ensures no_channel { result ≡ Err NoSale.NoChannel → ¬ FitsChannels (rows_and exchange.old rows.now) (marks_and exchange.old rows.now) channels }
-    ensures other { result ≡ Err NoSale.OtherChannels → IsOtherSaleOf channels (rows_and exchange.old rows.now) (marks_and exchange.old rows.now) exchange.old }
+    ensures took_over { result ≡ Err NoSale.TookOver → ¬ AreReferredByRow exchange.old.entries }
+    ensures no_channel { result ≡ Err NoSale.NoChannel → ¬ FitsBeside channels exchange.old (rows_and exchange.old rows.now) (marks_and exchange.old rows.now) }
 {
     if !are_later(rows, exchange.moment()) {
         return Err(NoSale::Late);
@@ -95,5 +61,10 @@ pub fn sell_all(
     };
     // Read for the prover alone, which learns a limit from it.
     let _channels = channels.count();
-    extend_by(alloc, exchange, channels, bookings, &marks)
+    match go_on_beside(alloc, exchange, channels, bookings, &marks) {
+        Ok(()) => Ok(()),
+        Err(NotGoneOn::NoChannel) => Err(NoSale::NoChannel),
+        Err(NotGoneOn::TookOver) => Err(NoSale::TookOver),
+        Err(NotGoneOn::Memory) => Err(NoSale::Memory),
+    }
 }

@@ -1,5 +1,5 @@
 use Rattle.std.proofs.Common.{rules}
 use Rattle.bx_journal.proofs.event_reading.amendment_on.Goals as goal
 
-pub returns-in-Some-strip_prefix : goal.returns-in-Some-strip_prefix
-returns-in-Some-strip_prefix c = search rules steps 1000000
+pub returns-in-Some : goal.returns-in-Some
+returns-in-Some c = search rules steps 1000000

@@ -11,7 +11,7 @@ use Rattle.bx_day.proofs.exchange.Exchange.write_outcomes.Goals as goal
 pub returns-clause-prefix : goal.returns-clause-prefix
 returns-clause-prefix g c =
     let contents = g.W.Write.contents in
-    let text = outcomes_text c.args.self.now in
+    let text = outcomes_text c.args.given_up.now c.args.self.now in
     let start = held c.args.writer.now c.new-block.result in
     let full = held c.put_outcomes.new.writer c.put_outcomes.new.block in
     let whole = puts_then contents start full (held c.write_out.new.w c.write_out.new.self) c.write_out.result text [] c.in_ok-put_outcomes.ensures c.write_out.ensures.text in

@@ -1,5 +1,0 @@
-use Rattle.bx_sales.proofs.Beside.{AreSomeIn}
-use Rattle.bx_sales.proofs.recolouring.with_own.Given as goal
-
-abbrev pub invariant-loop-index : goal.invariant-loop-index
-invariant-loop-index l = AreSomeIn l.service l.own l.fn.left l.index
