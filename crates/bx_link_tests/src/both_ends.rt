@@ -101,7 +101,7 @@ fn turns(alloc: Global, line: &mut Line, moment: u8) -> Option<bool> {
 /// Whether the booking was carried.
 fn is_carried(alloc: Global, exchange: &Exchange) -> bool {
     let mut outcomes = Watched::new(Vec::new(alloc));
-    let written = exchange.write_outcomes(&mut outcomes).is_ok();
+    let written = exchange.write_outcomes(&[], &mut outcomes).is_ok();
     let text = b"1 carried 1 60\nmaintenance none\n";
     written && outcomes.into_inner().as_slice() == text.as_slice()
 }

@@ -77,7 +77,7 @@ fn end_of(
     written: Vec<u8>,
 ) -> Option<Ended> {
     let mut outcomes = Watched::new(Vec::new(alloc));
-    exchange.write_outcomes(&mut outcomes).ok()?;
+    exchange.write_outcomes(&[], &mut outcomes).ok()?;
     Some(Ended {
         fault,
         written,

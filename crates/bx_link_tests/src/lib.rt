@@ -53,4 +53,6 @@ mod torn_days;
 #[cfg(test)]
 mod turn_endings;
 #[cfg(test)]
+mod udp_wires;
+#[cfg(test)]
 mod wire;

@@ -6,29 +6,15 @@ ghost use Rattle.bx_live.specs.Held.{has_call, RunsHeld};
 
 use crate::running::{Second, close_day, run_second};
 use crate::world::{CannotLog, World};
-use bx_day::{Exchange, Standing};
+use bx_day::Exchange;
 use bx_events::LAST_MOMENT;
-
-/// Whether a call of this booking is up.
-fn is_live(standing: Standing) -> bool
-    ensures { result ≡ is_live standing }
-{
-    match standing {
-        Standing::OnCall { .. } => true,
-        Standing::Refused
-        | Standing::Unoffered
-        | Standing::Carried { .. }
-        | Standing::Unanswered
-        | Standing::Missed => false,
-    }
-}
 
 /// Whether a call of some booking is up: it was offered or has come, and is not cleared.
 pub fn has_call(exchange: &Exchange) -> bool
     ensures { result ≡ has_call exchange.now }
 {
     for entry in exchange.entries() {
-        if is_live(entry.standing) {
+        if entry.standing.is_live() {
             return true;
         }
     }

@@ -7,7 +7,7 @@ ghost use Rattle.bx_live.specs.Acts.{Synced};
 ghost use Rattle.bx_live.specs.Logs.{WritesEvent, Commits, OnLog, WritesKept};
 
 use crate::world::CannotLog;
-use bx_events::{Event, LiveEvent, Rules};
+use bx_events::{Amendment, Event, LiveEvent, Rules};
 use bx_journal::{Disk, are_printable, commit, write_event};
 use bx_q931::MAX_MESSAGE;
 
@@ -26,9 +26,10 @@ fn is_message(event: LiveEvent<'_>) -> bool
     match event {
         LiveEvent::OnLink(Event::Receive(octets)) => octets.len() <= MAX_MESSAGE,
         LiveEvent::OnLink(Event::Tick) | LiveEvent::WithoutLink(Rules::Three) => true,
-        LiveEvent::Amended(_, line) => line.len() <= 200 && are_printable(line),
         // These stand in older journals alone.
         LiveEvent::HeardByRulesTwo(_) | LiveEvent::WithoutLink(Rules::Two) => false,
+        LiveEvent::Amended(Amendment::SoldByRulesTwo, _) => false,
+        LiveEvent::Amended(_, line) => line.len() <= 200 && are_printable(line),
     }
 }
 

@@ -9,8 +9,9 @@ use Rattle.bx_live.specs.declared.world.CannotLog.{CannotLog}
 use Rattle.bx_live.specs.Acts.{Act, Logged}
 use Rattle.bx_live.specs.Runs.{Over}
 use Rattle.bx_planfile.specs.OneBooking.{booking_text, booking_on, row_on, row_or_none}
-use Rattle.bx_sales.specs.Tags.{row_behind, tag_of, IsReadBack}
+use Rattle.bx_sales.specs.Tags.{row_behind, IsReadBack}
 use Rattle.bx_sales.specs.declared.tag.Tag.{Tag}
+use Rattle.bx_sales.specs.Left.{left_in_service}
 use Rattle.bx_sales.specs.Selling.{IsSold}
 use Rattle.bx_sales.specs.declared.selling.NoSale.{NoSale}
 use Rattle.bx_market.specs.declared.market.Answer.{Answer}
@@ -54,12 +55,12 @@ none_sold_of (row ∷ batch) (Refused why ∷ answers) none = none_sold_of batch
 -- ---- one booking
 
 module _ {W : Type 0} {did : W → List Act → W → Type 0} {dealt : W → List Deal → W → Type 0} (channels : List Bool) (by : (v w : W) (acts : List Act) → did v acts w → dealt v (all_ran acts) w) (u v : W) (shown d d1 : Day) (tag : Option Tag) (batch sold : List Row) where
-  pub sold_is_logged : (row : Row) (line : List ℕ) → did u (Logged (Amended Sold line) true ∷ []) v → IsReadBack tag (booking_text row) line → booking_on (booking_text row) ≡ Some row → IsSold channels row d d1
+  pub sold_is_logged : (row : Row) (line : List ℕ) → did u (Logged (Amended Sold line) true ∷ []) v → IsReadBack tag (booking_text row) line → booking_on (booking_text row) ≡ Some row → IsSold (left_in_service channels d) row d d1
       → Asks dealt channels u v (Filing shown d tag batch sold) (Filing shown d1 tag batch (sold ++ row ∷ []))
   sold_is_logged row line done (text, under) again is =
       let same : row ≡ row_behind row_on line = sym (ap row_on text ∙ ap row_or_none again) in
       one_inside channels by (Filing shown d tag batch sold) (Filing shown d1 tag batch (sold ++ row ∷ [])) (Logged (Amended Sold line) true) done
-      (d1, subst (λ (r : Row). IsSold channels r d d1) same is, under, ap (λ (r : Row). Filing shown d1 tag batch (sold ++ r ∷ [])) same) refl
+      (d1, subst (λ (r : Row). IsSold (left_in_service channels d) r d d1) same is, under, ap (λ (r : Row). Filing shown d1 tag batch (sold ++ r ∷ [])) same) refl
 
   pub not_logged : (line : List ℕ) → did u (Logged (Amended Sold line) false ∷ []) v → Asks dealt channels u v (Filing shown d tag batch sold) (Within (Over d))
   not_logged line done = one_inside channels by (Filing shown d tag batch sold) (Within (Over d)) (Logged (Amended Sold line) false) done refl refl

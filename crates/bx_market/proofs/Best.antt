@@ -6,7 +6,8 @@ use Rattle.bx_base.specs.Bookings.{Row, row_at}
 use Rattle.bx_base.proofs.SumLemmas.{sum_below-zero}
 use Rattle.bx_colour.specs.Colouring.{is_in}
 use Rattle.bx_day.specs.Day.{Day}
-use Rattle.bx_sales.specs.declared.selling.NoSale.TheVariants.{Late, OtherChannels, Memory}
+use Rattle.bx_sales.specs.Left.{left_in_service}
+use Rattle.bx_sales.specs.declared.selling.NoSale.TheVariants.{Late, TookOver, Memory}
 use Rattle.bx_market.specs.declared.market.Answer.{Answer}
 use Rattle.bx_market.specs.declared.market.Answer.TheVariants.{Accepted, Refused}
 use Rattle.bx_market.specs.Answers.{answer_at, IsToldOf, AreToldByChoice, AreToldOfMemory, AreTold}
@@ -27,7 +28,7 @@ same_marks answers marks count same = absurd (omega (arith, count))
 module _ (channels : List Bool) (d : Day) (batch : List Row) where
   chosen_sold : (chosen : List Bool) (i : ℕ) (b : Bool) (a : Answer) → IsToldOf channels d batch chosen i b a → IsUnhindered a → b ≡ is_sold a
   chosen_sold chosen i true Accepted told fine = refl
-  chosen_sold chosen i true (Refused OtherChannels) told fine = absurd (fine.1 refl)
+  chosen_sold chosen i true (Refused TookOver) told fine = absurd (fine.1 refl)
   chosen_sold chosen i true (Refused Memory) told fine = absurd (fine.0 refl)
   chosen_sold chosen i false (Refused why) told fine = refl
   chosen_sold chosen i b a told fine = absurd told
@@ -75,8 +76,8 @@ module _ (channels : List Bool) (d : Day) (batch : List Row) where
     best_of (inl told) = by_choice told
     best_of (inr told) = of_memory told
 
-of_best : (channels : List Bool) (deals : List Deal) (shown : Day) (tag : Option Tag) (batch sold : List Row) (answers : List Answer) → AreSold deals shown tag batch sold → AreTold channels shown batch answers → IsToldOfBest channels deals answers
-of_best channels deals shown tag batch sold answers s told = record { shown = shown; batch = record { tag = tag; bookings = batch }; before = s.before; since = s.since; are = s.are; told = told; best = λ fine. best_of channels shown batch answers fine told }
+of_best : (channels : List Bool) (deals : List Deal) (shown : Day) (tag : Option Tag) (batch sold : List Row) (answers : List Answer) → AreSold deals shown tag batch sold → AreTold (left_in_service channels shown) shown batch answers → IsToldOfBest channels deals answers
+of_best channels deals shown tag batch sold answers s told = record { shown = shown; batch = record { tag = tag; bookings = batch }; before = s.before; since = s.since; are = s.are; told = told; best = λ fine. best_of (left_in_service channels shown) shown batch answers fine told }
 
 told_at : (channels : List Bool) (deals : List Deal) (from to : Stand) (answers : List Answer) → Stands channels deals from → GoesByDeal channels from (Answered answers) to → IsToldOfBest channels deals answers
 told_at channels deals (Within p) to answers s e = absurd e

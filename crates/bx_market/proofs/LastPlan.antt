@@ -1,12 +1,12 @@
 -- The day of a run is that of the last plan, by the law of journals.
-use Rattle.std.proofs.Common.{◌≡◌, ℕ, Bool, List, [], ◌∷◌, ◌++◌, length, Option, refl, sym, ap, ap₂, ◌∙◌, subst}
+use Rattle.std.proofs.Common.{◌≡◌, ℕ, Bool, List, [], ◌∷◌, ◌++◌, length, Option, refl, sym, ap, ◌∙◌, subst}
 use Rattle.bx_base.specs.Bookings.{Row, AreBookings, Carries}
 use Rattle.bx_base.specs.Plans.{is_accepted, channel_at}
 use Rattle.bx_colour.specs.Colouring.{IsFirstFit}
 use Rattle.bx_day.specs.Day.{Day, opening}
 use Rattle.bx_day.specs.Outages.{live_happens, live_day_after}
 use Rattle.bx_events.specs.Events.{LiveEvent, OnLink, WithoutLink, Amended, HeardByRulesTwo}
-use Rattle.bx_sales.specs.Journal.{RunsThrough, rows_after, marks_after}
+use Rattle.bx_sales.specs.Journal.{RunsThrough, rows_after, marks_after, AreAllLeft}
 use Rattle.bx_sales.proofs.Journal.{told_by, through_more}
 use Rattle.bx_planfile.specs.OneBooking.{row_on}
 
@@ -47,14 +47,14 @@ through_others channels (WithoutLink rules ∷ events) d = through_others channe
 through_others channels (HeardByRulesTwo octets ∷ events) d = through_others channels events (live_happens d (HeardByRulesTwo octets)).day
 
 pub day_following : (channels : List Bool) (rows : List Row) (accepted : List Bool) (assigned : List (Option ℕ)) (earlier events : List LiveEvent) (d d1 : Day) → length accepted ≡ length rows → AreBookings rows → Carries rows channels (is_accepted assigned) (channel_at assigned) → IsFirstFit rows channels accepted assigned
-    → d ≡ live_day_after earlier (opening rows assigned) → RunsThrough channels row_on events d d1 → (last : List (Option ℕ))
+    → d ≡ live_day_after earlier (opening rows assigned) → RunsThrough channels row_on events d d1 → AreAllLeft channels d1 → (last : List (Option ℕ))
     → IsFirstFit (rows_after row_on events rows) channels (marks_after events accepted) last → d1 ≡ live_day_after (earlier ++ events) (opening (rows_after row_on events rows) last)
-day_following channels rows accepted assigned earlier events d d1 count bookings carries first is through last fit =
+day_following channels rows accepted assigned earlier events d d1 count bookings carries first is through left last fit =
     let all = others earlier ++ events in
     let a = opening rows assigned in
     let run = through_more channels row_on (others earlier) events a d d1 (subst (λ (x : Day). RunsThrough channels row_on (others earlier) a x) (sym is) (through_others channels earlier a)) through in
     let same : rows_after row_on all rows ≡ rows_after row_on events rows = others_rows earlier events rows in
     let marks : marks_after all accepted ≡ marks_after events accepted = others_marks earlier events accepted in
     let fits = subst (λ (ms : List Bool). IsFirstFit (rows_after row_on all rows) channels ms last) (sym marks) (subst (λ (rs : List Row). IsFirstFit rs channels (marks_after events accepted) last) (sym same) fit) in
-    let told = told_by channels row_on rows accepted assigned all d1 count bookings carries first run last fits in
+    let told = told_by channels row_on rows accepted assigned all d1 count bookings carries first run left last fits in
     told ∙ (ap (λ (rs : List Row). live_day_after all (opening rs last)) same ∙ others_day earlier events (opening (rows_after row_on events rows) last))

@@ -8,9 +8,16 @@ pub mod LastPlan
 mod Totals
 mod Eligible
 mod AllPromised
+mod OwnStays
+mod StillThere
+mod LeavingSteps
 mod Chosen
+mod BestBatch
+mod Kept
+mod KeptStays
+mod MovedAway
 mod Settled
 mod Noted
 mod Best
-mod Hindered
+mod PlanDays
 mod Untagged

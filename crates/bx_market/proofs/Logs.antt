@@ -5,7 +5,7 @@ use Rattle.bx_base.specs.Bookings.{Row}
 use Rattle.bx_day.specs.Day.{Day}
 use Rattle.bx_events.specs.Events.{LiveEvent, OnLink, WithoutLink, Amended, HeardByRulesTwo}
 use Rattle.bx_events.specs.declared.amendment.Amendment.{Amendment}
-use Rattle.bx_events.specs.declared.amendment.Amendment.TheVariants.{Sold, Cancelled, Changed}
+use Rattle.bx_events.specs.declared.amendment.Amendment.TheVariants.{Sold, SoldByRulesTwo}
 use Rattle.bx_live.specs.Acts.{Act, Logged, Synced, logged_by}
 use Rattle.bx_live.specs.Runs.{Between, Over}
 use Rattle.bx_live.specs.Written.{Filed, filed, filed_by}
@@ -14,9 +14,9 @@ use Rattle.bx_planfile.specs.OneBooking.{row_on}
 use Rattle.bx_sales.specs.Journal.{sold_in}
 use Rattle.bx_market.specs.declared.market.Answer.{Answer}
 use Rattle.bx_market.specs.Changes.{IsLineOf}
-use Rattle.bx_market.specs.Deals.{Deal, Ran, Asked, Answered, ToldOfChange, acts_of}
-use Rattle.bx_market.specs.Stands.{Stand, Within, Filing, Telling, Changing, Noted, Kept, asked_for, GoesByDeal, IsMarketRun}
-use Rattle.bx_market.specs.Told.{AreUnder, IsToldOnLog, IsToldOfChange}
+use Rattle.bx_market.specs.Deals.{Deal, Ran, Asked, Answered, ToldOfChange, Lost, Moved, acts_of}
+use Rattle.bx_market.specs.Stands.{Stand, Within, Filing, Telling, Changing, Noted, Kept, Leaving, Left, asked_for, GoesByDeal, IsMarketRun}
+use Rattle.bx_market.specs.Told.{AreUnder, IsToldOnLog, IsToldOfChange, IsToldOfLeaving}
 use Rattle.bx_market.specs.declared.market.Batch.{Batch}
 use Rattle.bx_market.specs.declared.market.Request.{Request}
 use Rattle.bx_market.specs.declared.market.Request.TheVariants.{Sell, Cancel, Change}
@@ -35,8 +35,8 @@ filed_synced (x ∷ xs) f = filed_synced xs f
 sold_on : (xs ys : List LiveEvent) → sold_in row_on (xs ++ ys) ≡ sold_in row_on xs ++ sold_in row_on ys
 sold_on [] ys = refl
 sold_on (Amended Sold line ∷ xs) ys = ap (λ (l : List Row). row_behind row_on line ∷ l) (sold_on xs ys)
-sold_on (Amended Cancelled line ∷ xs) ys = sold_on xs ys
-sold_on (Amended Changed line ∷ xs) ys = sold_on xs ys
+sold_on (Amended SoldByRulesTwo line ∷ xs) ys = ap (λ (l : List Row). row_behind row_on line ∷ l) (sold_on xs ys)
+sold_on (Amended kind line ∷ xs) ys = sold_on xs ys
 sold_on (OnLink event ∷ xs) ys = sold_on xs ys
 sold_on (WithoutLink rules ∷ xs) ys = sold_on xs ys
 sold_on (HeardByRulesTwo octets ∷ xs) ys = sold_on xs ys
@@ -107,6 +107,19 @@ pub record IsKept (channels : List Bool) (deals : List Deal) (shown d : Day) (re
   pub change : IsFiled channels deals shown d request
   pub on_disk : (filed (acts_of deals)).more ≡ []
 
+-- a channel was lost, where this day was shown
+pub record IsChannelLost (deals : List Deal) (shown : Day) : Type 0 where
+  pub before : List Deal
+  pub since : List Deal
+  pub are : deals ≡ before ++ Lost shown ∷ since
+
+lost_after : (deals : List Deal) (shown : Day) (deal : Deal) → IsChannelLost deals shown → IsChannelLost (deals ++ deal ∷ []) shown
+lost_after deals shown deal s = record {
+  before = s.before;
+  since = s.since ++ deal ∷ [];
+  are = ap (λ (l : List Deal). l ++ deal ∷ []) s.are ∙ append_assoc s.before (Lost shown ∷ s.since) (deal ∷ []);
+}
+
 abbrev pub Stands : List Bool → List Deal → Stand → Type 0
 Stands channels deals (Within p) = Unit {0}
 Stands channels deals (Filing shown d tag batch sold) = AreSold deals shown tag batch sold
@@ -114,6 +127,8 @@ Stands channels deals (Telling shown d tag batch sold) = AreSynced deals shown t
 Stands channels deals (Changing shown request) = IsAskedFor deals shown request []
 Stands channels deals (Noted shown d request) = IsFiled channels deals shown d request
 Stands channels deals (Kept shown d request) = IsKept channels deals shown d request
+Stands channels deals (Leaving shown d) = IsChannelLost deals shown
+Stands channels deals (Left shown d) = IsChannelLost deals shown
 
 named : (channels : List Bool) (deals : List Deal) (to other : Stand) → to ≡ other → Stands channels deals other → Stands channels deals to
 named channels deals to other e s = subst (Stands channels deals) (sym e) s
@@ -146,6 +161,12 @@ stands channels deals (Noted shown d request) to (Ran (Synced true)) s e = named
 })
 stands channels deals (Noted shown d request) to (Ran (Synced false)) s e = named channels _ to (Within (Over d)) e tt
 stands channels deals (Kept shown d request) to (ToldOfChange (Ok done)) s e = named channels _ to (Within (Between d)) e tt
+stands channels deals (Within (Between d)) to (Lost shown) s (at, e) = named channels _ to (Leaving d d) e (record { before = deals; since = []; are = ap (λ (x : Day). deals ++ Lost x ∷ []) at })
+stands channels deals (Leaving shown d) to (Ran (Logged (Amended kind line) true)) s (d1, is, step, e) = named channels _ to (Leaving shown d1) e (lost_after deals shown (Ran (Logged (Amended kind line) true)) s)
+stands channels deals (Leaving shown d) to (Ran (Logged (Amended kind line) false)) s e = named channels _ to (Within (Over d)) e tt
+stands channels deals (Leaving shown d) to (Ran (Synced true)) s e = named channels _ to (Left shown d) e (lost_after deals shown (Ran (Synced true)) s)
+stands channels deals (Leaving shown d) to (Ran (Synced false)) s e = named channels _ to (Within (Over d)) e tt
+stands channels deals (Left shown d) to (Moved now whole) s (at, is, e) = named channels _ to (Within (Between d)) e tt
 stands channels deals from to deal s e = absurd e
 
 told_at : (channels : List Bool) (deals : List Deal) (from to : Stand) (answers : List Answer) → Stands channels deals from → GoesByDeal channels from (Answered answers) to → IsToldOnLog deals answers
@@ -182,3 +203,15 @@ change_on_log channels done [] following answer from to s (mid, goes, rest) = su
 change_on_log channels done (deal ∷ before) following answer from to s (mid, goes, rest) =
     subst (λ (l : List Deal). IsToldOfChange channels l answer) (append_assoc done (deal ∷ []) before)
     (change_on_log channels (done ++ deal ∷ []) before following answer mid to (stands channels done from mid deal s goes) rest)
+
+-- ---- what is told of a channel that is lost
+
+left_at : (channels : List Bool) (deals : List Deal) (from to : Stand) (now : Day) → Stands channels deals from → GoesByDeal channels from (Moved now true) to → IsToldOfLeaving channels deals now
+left_at channels deals (Left shown d) to now s (at, is, e) = record { shown = shown; before = s.before; since = s.since; are = s.are; left = is refl }
+left_at channels deals from to now s e = absurd e
+
+pub left_on_log : (channels : List Bool) (done before following : List Deal) (now : Day) (from to : Stand) → Stands channels done from → IsMarketRun channels from (before ++ Moved now true ∷ following) to → IsToldOfLeaving channels (done ++ before) now
+left_on_log channels done [] following now from to s (mid, goes, rest) = subst (λ (l : List Deal). IsToldOfLeaving channels l now) (sym (append-nil done)) (left_at channels done from mid now s goes)
+left_on_log channels done (deal ∷ before) following now from to s (mid, goes, rest) =
+    subst (λ (l : List Deal). IsToldOfLeaving channels l now) (append_assoc done (deal ∷ []) before)
+    (left_on_log channels (done ++ deal ∷ []) before following now mid to (stands channels done from mid deal s goes) rest)

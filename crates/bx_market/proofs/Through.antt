@@ -21,8 +21,8 @@ use Rattle.bx_planfile.specs.OneBooking.{row_on}
 use Rattle.bx_sales.specs.Journal.{RunsThrough}
 use Rattle.bx_sales.proofs.Journal.{through_more}
 use Rattle.bx_market.specs.declared.market.Request.TheVariants.{Sell, Cancel, Change}
-use Rattle.bx_market.specs.Deals.{Deal, Ran, Asked, Answered, ToldOfChange, acts_of}
-use Rattle.bx_market.specs.Stands.{Stand, Within, Filing, Telling, Changing, Noted, Kept, asked_for, GoesByDeal, IsMarketRun, stand_day}
+use Rattle.bx_market.specs.Deals.{Deal, Ran, Asked, Answered, ToldOfChange, Lost, Moved, acts_of}
+use Rattle.bx_market.specs.Stands.{Stand, Within, Filing, Telling, Changing, Noted, Kept, Leaving, Left, asked_for, GoesByDeal, IsMarketRun, stand_day}
 use Rattle.bx_market.proofs.Steps.{acts_more}
 
 -- ---- the run by the clock amends nothing
@@ -123,6 +123,12 @@ module _ (channels : List Bool) where
   keeps (Noted shown d request) to (Ran (Synced true)) link e = quiet _ to (Kept shown d request) _ refl e tt refl
   keeps (Noted shown d request) to (Ran (Synced false)) link e = quiet _ to (Within (Over d)) _ refl e tt refl
   keeps (Kept shown d request) to (ToldOfChange (Ok done)) link e = quiet _ to (Within (Between d)) _ refl e tt refl
+  keeps (Within (Between d)) to (Lost shown) link (at, e) = quiet _ to (Leaving d d) _ refl e tt refl
+  keeps (Leaving shown d) to (Ran (Logged (Amended kind line) true)) link (d1, is, step, e) = record { links = subst IsLinkStand (sym e) tt; through = (d1, is, ap stand_day e) }
+  keeps (Leaving shown d) to (Ran (Logged (Amended kind line) false)) link e = quiet _ to (Within (Over d)) _ refl e tt refl
+  keeps (Leaving shown d) to (Ran (Synced true)) link e = quiet _ to (Left shown d) _ refl e tt refl
+  keeps (Leaving shown d) to (Ran (Synced false)) link e = quiet _ to (Within (Over d)) _ refl e tt refl
+  keeps (Left shown d) to (Moved now whole) link (at, is, e) = quiet _ to (Within (Between d)) _ refl e tt refl
   keeps from to deal link e = absurd e
 
   -- ---- all deals

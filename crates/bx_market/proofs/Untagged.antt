@@ -1,5 +1,5 @@
 -- The text of a booking begins with a digit, so it does not read as one with a key.
-use Rattle.std.proofs.Common.{◌≡◌, ℕ, ◌<◌, ◌^◌, nat_le, ◌==◌, Bool, true, false, List, [], ◌∷◌, ◌++◌, length, take, codes, refl, arith, decimal, Option, Some, None}
+use Rattle.std.proofs.Common.{◌≡◌, ℕ, ◌<◌, ◌^◌, nat_le, false, List, [], ◌∷◌, ◌++◌, length, take, codes, refl, arith, decimal, None}
 use Rattle.std.specs.Str.{bytes_eq}
 use Rattle.std.specs.List.{join_with_byte}
 use Rattle.std.specs.Str.Parse.{AllDigits}

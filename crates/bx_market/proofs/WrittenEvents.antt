@@ -15,8 +15,8 @@ use Rattle.bx_sales.specs.Journal.{RunsThrough}
 use Rattle.bx_sales.proofs.Journal.{through_more}
 use Rattle.bx_sales.specs.Tags.{row_behind}
 use Rattle.bx_market.specs.declared.market.Request.TheVariants.{Sell, Cancel, Change}
-use Rattle.bx_market.specs.Deals.{Deal, Ran, Asked, Answered, ToldOfChange, acts_of}
-use Rattle.bx_market.specs.Stands.{Stand, Within, Filing, Telling, Changing, Noted, Kept, asked_for, GoesByDeal, IsMarketRun, stand_day}
+use Rattle.bx_market.specs.Deals.{Deal, Ran, Asked, Answered, ToldOfChange, Lost, Moved, acts_of}
+use Rattle.bx_market.specs.Stands.{Stand, Within, Filing, Telling, Changing, Noted, Kept, Leaving, Left, asked_for, GoesByDeal, IsMarketRun, stand_day}
 use Rattle.bx_market.specs.Told.{IsWrittenForEvent}
 use Rattle.bx_market.proofs.Steps.{acts_more}
 use Rattle.bx_market.proofs.Through.{IsLinkPlace, IsLinkStand, Through, keeps, links, none_amends}
@@ -136,6 +136,12 @@ module _ (channels : List Bool) (d : Day) where
   since_there acts (Noted shown day request) to (Ran (Synced true)) s e = named _ to (Kept shown day request) e tt
   since_there acts (Noted shown day request) to (Ran (Synced false)) s e = named _ to (Within (Over day)) e (inr (day, refl))
   since_there acts (Kept shown day request) to (ToldOfChange (Ok done)) s e = named _ to (Within (Between day)) e (inl (begins_anew acts day s.through))
+  since_there acts (Within (Between day)) to (Lost shown) s (at, e) = named _ to (Leaving day day) e tt
+  since_there acts (Leaving shown day) to (Ran (Logged (Amended kind line) true)) s (d1, is, step, e) = named _ to (Leaving shown d1) e tt
+  since_there acts (Leaving shown day) to (Ran (Logged (Amended kind line) false)) s e = named _ to (Within (Over day)) e (inr (day, refl))
+  since_there acts (Leaving shown day) to (Ran (Synced true)) s e = named _ to (Left shown day) e tt
+  since_there acts (Leaving shown day) to (Ran (Synced false)) s e = named _ to (Within (Over day)) e (inr (day, refl))
+  since_there acts (Left shown day) to (Moved now whole) s (at, is, e) = named _ to (Within (Between day)) e (inl (begins_anew acts day s.through))
   since_there acts from to deal s e = absurd e
 
   stands_there : (acts : List Act) (from to : Stand) (deal : Deal) → StandsThere acts from → GoesByDeal channels from deal to → StandsThere (acts ++ acts_of (deal ∷ [])) to

@@ -3,10 +3,10 @@ use Rattle.std.specs.Prelude.{◌≡◌, ◌⊎◌, ◌≤◌, ◌<◌, ℕ, Boo
 use Rattle.bx_base.specs.Bookings.{Row, row_at}
 use Rattle.bx_colour.specs.Colouring.{is_in}
 use Rattle.bx_day.specs.Day.{Day}
-use Rattle.bx_sales.specs.Selling.{IsOtherPlan}
+use Rattle.bx_day.specs.Changed.{AreReferredByRow}
 use Rattle.bx_sales.specs.Sold.{AreSoldInTurn}
 use Rattle.bx_sales.specs.declared.selling.NoSale.{NoSale}
-use Rattle.bx_sales.specs.declared.selling.NoSale.TheVariants.{Late, Full, NoChannel, OtherChannels, Memory}
+use Rattle.bx_sales.specs.declared.selling.NoSale.TheVariants.{Late, Full, NoChannel, TookOver, Memory}
 use Rattle.bx_market.specs.declared.market.Answer.{Answer}
 use Rattle.bx_market.specs.declared.market.Answer.TheVariants.{Accepted, Refused}
 use Rattle.bx_market.specs.Choices.{is_eligible, IsBestBatch, HasNoRoom}
@@ -19,21 +19,20 @@ abbrev pub IsWhyNot : List Bool → Day → List Row → List Bool → ℕ → N
 IsWhyNot channels d batch chosen i Late = (row_at batch i).start ≤ d.moment
 IsWhyNot channels d batch chosen i Full = (d.moment < (row_at batch i).start) × (is_eligible d batch i ≡ false)
 IsWhyNot channels d batch chosen i NoChannel = (is_eligible d batch i ≡ true) × HasNoRoom channels d batch chosen i
-IsWhyNot channels d batch chosen i OtherChannels = ⊥
+IsWhyNot channels d batch chosen i TookOver = ⊥
 IsWhyNot channels d batch chosen i Memory = ⊥
 
--- from this day on some bookings were sold, and the first-fit plan with this one after them is none that the day then goes on with
-pub record HasOtherChannels (channels : List Bool) (d : Day) (row : Row) : Type 0 where
+-- from this day on some bookings were sold, and it then has one whose reference is not its row, as a day that took over from another
+pub record HasTakenOver (channels : List Bool) (d : Day) : Type 0 where
   pub sold : List Row
   pub now : Day
   pub went : AreSoldInTurn channels sold d now
-  pub other : IsOtherPlan channels row now
+  pub other : ¬ AreReferredByRow now.entries
 
--- A booking that is chosen is sold, unless memory runs out, or the channels of the day are not those of first fit. Of one that is not chosen it is
--- told why
+-- A booking that is chosen is sold, unless memory runs out, or the day took over from another. Of one that is not chosen it is told why
 abbrev pub IsToldOf : List Bool → Day → List Row → List Bool → ℕ → Bool → Answer → Type 0
 IsToldOf channels d batch chosen i true Accepted = Unit {0}
-IsToldOf channels d batch chosen i true (Refused OtherChannels) = HasOtherChannels channels d (row_at batch i)
+IsToldOf channels d batch chosen i true (Refused TookOver) = HasTakenOver channels d
 IsToldOf channels d batch chosen i true (Refused Memory) = Unit {0}
 IsToldOf channels d batch chosen i true (Refused _) = ⊥
 IsToldOf channels d batch chosen i false Accepted = ⊥

@@ -1,5 +1,5 @@
 -- What a run with a market asked and answered: the acts of a run by the clock, and those towards customers.
-use Rattle.std.specs.Prelude.{List, [], ◌∷◌, Option, Result}
+use Rattle.std.specs.Prelude.{Bool, List, [], ◌∷◌, Option, Result}
 use Rattle.bx_base.specs.Bookings.{Row}
 use Rattle.bx_day.specs.Day.{Day}
 use Rattle.bx_live.specs.Acts.{Act}
@@ -17,6 +17,10 @@ pub data Deal : Type 0 where
   Answered : (answers : List Answer) → Deal
   -- the customer of a change was told whether it is done
   ToldOfChange : (answer : Result (Unit {0}) NoChange) → Deal
+  -- a channel is lost: the market was shown this day before what is planned on it leaves it
+  Lost : (shown : Day) → Deal
+  -- and this one after that, as a whole or as far as memory let it
+  Moved : (now : Day) (whole : Bool) → Deal
 
 -- the acts of the run by the clock
 abbrev pub acts_of : List Deal → List Act
@@ -25,6 +29,8 @@ acts_of (Ran act ∷ deals) = act ∷ acts_of deals
 acts_of (Asked shown request ∷ deals) = acts_of deals
 acts_of (Answered answers ∷ deals) = acts_of deals
 acts_of (ToldOfChange answer ∷ deals) = acts_of deals
+acts_of (Lost shown ∷ deals) = acts_of deals
+acts_of (Moved now whole ∷ deals) = acts_of deals
 
 abbrev pub all_ran : List Act → List Deal
 all_ran [] = []

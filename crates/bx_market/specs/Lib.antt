@@ -1,6 +1,8 @@
 pub mod Deals
 pub mod Changes
 pub mod Choices
+pub mod Leaving
+pub mod LeavingSteps
 pub mod Answers
 pub mod Choosing
 pub mod Stands

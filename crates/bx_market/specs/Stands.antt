@@ -4,13 +4,14 @@ use Rattle.bx_base.specs.Bookings.{Row}
 use Rattle.bx_day.specs.Day.{Day}
 use Rattle.bx_events.specs.Events.{Amended}
 use Rattle.bx_events.specs.declared.amendment.Amendment.{Amendment}
-use Rattle.bx_events.specs.declared.amendment.Amendment.TheVariants.{Sold}
+use Rattle.bx_events.specs.declared.amendment.Amendment.TheVariants.{Sold, Delayed, Dropped, Out}
 use Rattle.bx_events.specs.declared.moment.TheConstants.{LAST_MOMENT}
 use Rattle.bx_live.specs.Acts.{Began, Logged, Synced}
 use Rattle.bx_live.specs.Held.{has_call}
 use Rattle.bx_live.specs.Runs.{Place, Between, Over, IsDue, next, day_at}
 use Rattle.bx_planfile.specs.OneBooking.{row_on}
 use Rattle.bx_sales.specs.Amending.{AmendsDay}
+use Rattle.bx_sales.specs.Left.{left_in_service}
 use Rattle.bx_sales.specs.Selling.{IsSold}
 use Rattle.bx_sales.specs.Tags.{row_behind, tag_of}
 use Rattle.bx_sales.specs.declared.tag.Tag.{Tag}
@@ -19,7 +20,8 @@ use Rattle.bx_market.specs.declared.market.Request.{Request}
 use Rattle.bx_market.specs.declared.market.Request.TheVariants.{Sell, Cancel, Change}
 use Rattle.bx_market.specs.Answers.{AreTold}
 use Rattle.bx_market.specs.Changes.{IsLineOf, IsNotChanged}
-use Rattle.bx_market.specs.Deals.{Deal, Ran, Asked, Answered, ToldOfChange, sold_of}
+use Rattle.bx_market.specs.Leaving.{IsLeftWhole}
+use Rattle.bx_market.specs.Deals.{Deal, Ran, Asked, Answered, ToldOfChange, Lost, Moved, sold_of}
 
 -- where a run stands
 pub data Stand : Type 0 where
@@ -34,6 +36,10 @@ pub data Stand : Type 0 where
   -- it is done, and in the journal; and that is on the disk
   Noted : (shown d : Day) (request : Request) → Stand
   Kept : (shown d : Day) (request : Request) → Stand
+  -- a channel is lost, where the day was shown, and what is planned on it leaves it, so far as this day, each step in the journal
+  Leaving : (shown d : Day) → Stand
+  -- all that was done of it is on the disk
+  Left : (shown d : Day) → Stand
 
 -- the day as far as its events and sales are logged
 abbrev pub stand_day : Stand → Day
@@ -43,11 +49,13 @@ stand_day (Telling shown d tag batch sold) = d
 stand_day (Changing shown request) = shown
 stand_day (Noted shown d request) = d
 stand_day (Kept shown d request) = d
+stand_day (Leaving shown d) = d
+stand_day (Left shown d) = d
 
--- one booking more is sold, and in the journal with the key of its batch; or it could not be logged, and nothing more is done
+-- one booking more is sold on the channels that are left, and in the journal with the key of its batch; or it could not be logged, and nothing more is done
 abbrev pub FiledSale : List Bool → Day → Day → Option Tag → List Row → List Row → List ℕ → Bool → Stand → Type 0
 FiledSale channels shown d tag batch sold line true to =
-    (d1 : Day) × IsSold channels (row_behind row_on line) d d1 × (tag_of line ≡ tag) × (to ≡ Filing shown d1 tag batch (sold ++ row_behind row_on line ∷ []))
+    (d1 : Day) × IsSold (left_in_service channels d) (row_behind row_on line) d d1 × (tag_of line ≡ tag) × (to ≡ Filing shown d1 tag batch (sold ++ row_behind row_on line ∷ []))
 FiledSale channels shown d tag batch sold line false to = to ≡ Within (Over d)
 
 -- all that is sold of the batch is on the disk; or it may not be, and nothing more is done
@@ -65,6 +73,22 @@ abbrev pub kept_on_disk : Day → Day → Request → Bool → Stand
 kept_on_disk shown d request true = Kept shown d request
 kept_on_disk shown d request false = Within (Over d)
 
+-- a step away from a lost channel is in the journal: a booking is delayed, or given up, or all that can leave it; or it could not be logged
+abbrev pub IsLeavingStep : Amendment → Type 0
+IsLeavingStep Delayed = Unit {0}
+IsLeavingStep Dropped = Unit {0}
+IsLeavingStep Out = Unit {0}
+IsLeavingStep _ = ⊥
+
+abbrev pub FiledStep : List Bool → Day → Day → Amendment → List ℕ → Bool → Stand → Type 0
+FiledStep channels shown d kind line true to = (d1 : Day) × AmendsDay channels row_on kind line d d1 × IsLeavingStep kind × (to ≡ Leaving shown d1)
+FiledStep channels shown d kind line false to = to ≡ Within (Over d)
+
+-- all that was done is on the disk; or it may not be, and nothing more is done
+abbrev pub left_on_disk : Day → Day → Bool → Stand
+left_on_disk shown d true = Left shown d
+left_on_disk shown d false = Within (Over d)
+
 abbrev pub asked_batch : Day → Batch → Stand
 asked_batch d batch = Filing d d batch.tag batch.bookings []
 
@@ -79,18 +103,24 @@ asked_stand d (Some request) = asked_for d request
 
 -- A deal leads from one stand to another. Between two seconds the market is shown the day so far, and asked. Each booking that is sold is logged, one sync
 -- follows, and only then the customer is answered, of the best choice among the batch; where nothing is sold, no sync is wanted. A change is logged, on the
--- disk, and told, or it is told why it is not done.
+-- disk, and told, or it is told why it is not done. All of it counts on the channels that are left. Where a channel is lost the market is shown the day,
+-- the bookings that are planned on it leave it, each step in the journal and all on the disk, and the market is shown the day again, with a word on whether
+-- that was done as a whole.
 abbrev pub GoesByDeal : List Bool → Stand → Deal → Stand → Type 0
 GoesByDeal channels (Within p) (Ran act) to = IsDue p act × (to ≡ Within (next p act))
 GoesByDeal channels (Within (Between d)) (Asked shown request) to = (shown ≡ d) × (to ≡ asked_stand d request)
 GoesByDeal channels (Filing shown d tag batch sold) (Ran (Logged (Amended Sold line) done)) to = FiledSale channels shown d tag batch sold line done to
 GoesByDeal channels (Filing shown d tag batch sold) (Ran (Synced done)) to = to ≡ synced shown d tag batch sold done
-GoesByDeal channels (Filing shown d tag batch sold) (Answered answers) to = (sold ≡ []) × (sold_of batch answers ≡ []) × AreTold channels shown batch answers × (to ≡ Within (Between d))
-GoesByDeal channels (Telling shown d tag batch sold) (Answered answers) to = (sold_of batch answers ≡ sold) × AreTold channels shown batch answers × (to ≡ Within (Between d))
+GoesByDeal channels (Filing shown d tag batch sold) (Answered answers) to = (sold ≡ []) × (sold_of batch answers ≡ []) × AreTold (left_in_service channels shown) shown batch answers × (to ≡ Within (Between d))
+GoesByDeal channels (Telling shown d tag batch sold) (Answered answers) to = (sold_of batch answers ≡ sold) × AreTold (left_in_service channels shown) shown batch answers × (to ≡ Within (Between d))
 GoesByDeal channels (Changing shown request) (Ran (Logged (Amended kind line) done)) to = FiledChange channels shown request kind line done to
-GoesByDeal channels (Changing shown request) (ToldOfChange (Err why)) to = IsNotChanged channels shown request why × (to ≡ Within (Between shown))
+GoesByDeal channels (Changing shown request) (ToldOfChange (Err why)) to = IsNotChanged (left_in_service channels shown) shown request why × (to ≡ Within (Between shown))
 GoesByDeal channels (Noted shown d request) (Ran (Synced done)) to = to ≡ kept_on_disk shown d request done
 GoesByDeal channels (Kept shown d request) (ToldOfChange (Ok done)) to = to ≡ Within (Between d)
+GoesByDeal channels (Within (Between d)) (Lost shown) to = (shown ≡ d) × (to ≡ Leaving d d)
+GoesByDeal channels (Leaving shown d) (Ran (Logged (Amended kind line) done)) to = FiledStep channels shown d kind line done to
+GoesByDeal channels (Leaving shown d) (Ran (Synced done)) to = to ≡ left_on_disk shown d done
+GoesByDeal channels (Left shown d) (Moved now whole) to = (now ≡ d) × (whole ≡ true → IsLeftWhole channels shown now) × (to ≡ Within (Between d))
 GoesByDeal _ _ _ _ = ⊥
 
 -- the deals of a run from one stand to another

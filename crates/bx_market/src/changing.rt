@@ -12,7 +12,7 @@ use bx_day::Exchange;
 use bx_events::{Amendment, LiveEvent};
 use bx_live::CannotLog;
 use bx_planfile::spell_booking;
-use bx_sales::{cancel, cancel_line, change, change_line};
+use bx_sales::{cancel, cancel_line, change, change_line, channels_left};
 use std::alloc::Global;
 
 /// Puts a change that is done in the journal and brings it to the disk, and only then tells its customer.
@@ -36,7 +36,8 @@ pub(crate) fn cancel_one<W: Market>(
     ensures cancelled { OrOver W.dealt channels world.old world.new (Changing exchange.old (Cancel row)) (Within (Between exchange.new)) result }
     ensures moment { OnOk result (exchange.new.moment ≡ exchange.old.moment) }
 {
-    match cancel(alloc, exchange, channels, row) {
+    let left = channels_left(exchange, channels);
+    match cancel(alloc, exchange, left, row) {
         Ok(()) => keep(world, Amendment::Cancelled, &cancel_line(row)),
         Err(why) => {
             world.answer_change(Err(why));
@@ -57,7 +58,8 @@ pub(crate) fn change_one<W: Market>(
     ensures changed { OrOver W.dealt channels world.old world.new (Changing exchange.old (Change row booking)) (Within (Between exchange.new)) result }
     ensures moment { OnOk result (exchange.new.moment ≡ exchange.old.moment) }
 {
-    match change(alloc, exchange, channels, row, booking) {
+    let left = channels_left(exchange, channels);
+    match change(alloc, exchange, left, row, booking) {
         Ok(()) => {
             let line = change_line(row, &spell_booking(booking));
             keep(world, Amendment::Changed, &line)

@@ -1,18 +1,20 @@
 //! The choice among the bookings of a batch.
 
-ghost use Rattle.std.specs.Prelude.{◌≡◌, ◌↔◌, IsTrue, ◌≤◌, ◌<◌, ◌++◌, ◌∷◌, [], not, true, replicate, length, IfOk, OnOk};
+ghost use Rattle.std.specs.Prelude.{◌≡◌, ◌↔◌, IsTrue, ◌≤◌, ◌<◌, ◌++◌, ◌∷◌, [], true, replicate, length, IfOk, OnOk};
 ghost use Rattle.bx_base.specs.Plans.{is_accepted};
 ghost use Rattle.bx_base.specs.declared.bookings.TheConstants.{MAX_BOOKINGS};
 ghost use Rattle.bx_colour.specs.Colouring.{is_in, FitsChannels};
-ghost use Rattle.bx_day.specs.Invariant.{is_refused};
-ghost use Rattle.bx_market.specs.Choices.{promised, eligible_marks, IsBestBatch};
-ghost use Rattle.bx_market.specs.Choosing.{free_row, free_rows, chosen_rows, chosen_marks};
+ghost use Rattle.bx_market.specs.Choices.{is_counted, promised, eligible_marks};
+ghost use Rattle.bx_market.specs.Choosing.{IsBestOnLeft};
+ghost use Rattle.bx_market.specs.Choosing.{free_row, free_rows, chosen_rows, chosen_marks, AreMustRows, IsBestSelection};
+ghost use Rattle.bx_market.specs.LeavingSteps.{is_ahead, has_begun_on};
 
 use bx_base::{Booking, Bookings, ChannelSet, MAX_BOOKINGS};
 use bx_channels::Channel;
 use bx_colour::fits;
-use bx_day::{Entry, Exchange, Standing};
+use bx_day::{Entry, Exchange};
 use bx_planner::{NoPlan, plan};
+use bx_sales::channels_left;
 use std::alloc::{AllocError, Global};
 
 /// A choice among the bookings of a batch: which are eligible, and which of these are chosen.
@@ -62,7 +64,7 @@ fn eligible_marks(
 }
 
 /// Adds a booking. There have to be fewer than 16,000, or this is told as memory that ran out.
-fn add(rows: &mut Bookings, booking: Booking) -> Result<(), AllocError>
+pub(crate) fn add(rows: &mut Bookings, booking: Booking) -> Result<(), AllocError>
     ensures { OnOk result (rows.new ≡ rows.old ++ booking ∷ []) }
 {
     match rows.push(booking) {
@@ -71,23 +73,47 @@ fn add(rows: &mut Bookings, booking: Booking) -> Result<(), AllocError>
     }
 }
 
-/// Whether a booking of which this has become is promised: each is but one that the plan refused.
-pub fn is_promised(standing: Standing) -> bool
-    ensures { result ≡ not (is_refused standing) }
+/// Whether a booking waits for a start that is yet to come.
+pub(crate) fn is_ahead(entry: &Entry, moment: u32) -> bool
+    ensures { result ≡ is_ahead moment entry.now }
 {
-    match standing {
-        Standing::Refused => false,
-        _ => true,
+    entry.standing.is_waiting() && moment < entry.booking.start()
+}
+
+/// Whether a booking has begun on one of these channels.
+pub(crate) fn has_begun_on(entry: &Entry, moment: u32, channels: ChannelSet) -> bool
+    ensures { result ≡ has_begun_on channels moment entry.now }
+{
+    // Read for the prover alone, which learns from it what a set is.
+    let _count = channels.count();
+    if entry.standing.is_refused() || is_ahead(entry, moment) {
+        return false;
+    }
+    match Channel::new(entry.channel) {
+        Some(channel) => channels.has(channel),
+        None => false,
     }
 }
 
-/// All that is promised of these, each as a booking that every plan has to hold. `AllocError` where memory runs out.
-pub fn promised(alloc: Global, entries: &[Entry]) -> Result<Bookings, AllocError>
-    ensures { IfOk result (λ rows. rows ≡ promised entries.now) }
+/// Whether a booking is promised and counts on these channels: it has not begun on another one.
+fn is_counted(entry: &Entry, moment: u32, channels: ChannelSet) -> bool
+    ensures { result ≡ is_counted channels moment entry.now }
 {
+    is_ahead(entry, moment) || has_begun_on(entry, moment, channels)
+}
+
+/// All that is promised and counts on these channels, each as a booking that every plan has to hold. `AllocError` where memory runs out.
+pub fn promised(
+    alloc: Global,
+    exchange: &Exchange,
+    channels: ChannelSet,
+) -> Result<Bookings, AllocError>
+    ensures { IfOk result (λ rows. rows ≡ promised channels exchange.now.moment exchange.now.entries) }
+{
+    let moment = exchange.moment();
     let mut rows = Bookings::new(alloc);
-    for entry in entries {
-        if is_promised(entry.standing) {
+    for entry in exchange.entries() {
+        if is_counted(entry, moment, channels) {
             add(&mut rows, entry.booking.as_must())?;
         }
     }
@@ -173,9 +199,36 @@ fn all_fit(alloc: Global, rows: &Bookings, channels: ChannelSet) -> Result<bool,
     Ok(fits(rows, &marks, channels))
 }
 
-/// The best choice among the bookings of a batch beside all that is promised. Where all that are eligible fit, these; else by a plan in which each
-/// promised booking has to be held, and those of the batch are free. Where the channels do not carry what is promised, nothing is chosen.
-/// `AllocError` where memory runs out.
+/// The best choice among the eligible bookings of a batch beside those that are held: where all fit, these; else by a plan in which each that is held is a
+/// must booking, and those of the batch are free. Where the channels do not carry what is held, none is chosen. `AllocError` where memory runs out.
+pub(crate) fn best_beside(
+    alloc: Global,
+    held: Bookings,
+    batch: &Bookings,
+    eligible: &[bool],
+    channels: ChannelSet,
+) -> Result<Vec<bool>, AllocError>
+    requires count { length eligible.now ≡ length batch.now }
+    requires held { AreMustRows held }
+    ensures { IfOk result (λ v. IsBestSelection channels held batch.now eligible.now v.items) }
+{
+    // Read for the prover alone, which learns a limit from it.
+    let _wanted = batch.len();
+    let place = held.len() as usize;
+    let mut rows = held;
+    add_free(&mut rows, batch, eligible)?;
+    if all_fit(alloc, &rows, channels)? {
+        let all = eligible.to_vec(alloc)?;
+        return Ok(all);
+    }
+    match plan(alloc, &rows, channels) {
+        Ok(best) => chosen_marks(alloc, eligible, &best.assigned, place),
+        Err(NoPlan::TooManyMust(_)) => chosen_marks(alloc, eligible, &[], place),
+        Err(NoPlan::Memory) => Err(AllocError),
+    }
+}
+
+/// The best choice among the bookings of a batch on the channels that are left, beside all that is promised. `AllocError` where memory runs out.
 pub(crate) fn choose(
     alloc: Global,
     exchange: &Exchange,
@@ -183,22 +236,11 @@ pub(crate) fn choose(
     batch: &Bookings,
 ) -> Result<Choice, AllocError>
     ensures eligible { IfOk result (λ c. c.eligible.items ≡ eligible_marks exchange.now.moment (length exchange.now.entries) batch.now) }
-    ensures best { IfOk result (λ c. IsBestBatch channels exchange.now batch.now c.chosen.items) }
+    ensures best { IfOk result (λ c. IsBestOnLeft channels exchange.now batch.now c.chosen.items) }
 {
-    // Read for the prover alone, which learns a limit from it.
-    let _wanted = batch.len();
+    let left = channels_left(exchange, channels);
     let eligible = eligible_marks(alloc, exchange.moment(), exchange.entries().len(), batch)?;
-    let mut rows = promised(alloc, exchange.entries())?;
-    let place = rows.len() as usize;
-    add_free(&mut rows, batch, &eligible)?;
-    if all_fit(alloc, &rows, channels)? {
-        let chosen = eligible.clone()?;
-        return Ok(Choice { eligible, chosen });
-    }
-    let chosen = match plan(alloc, &rows, channels) {
-        Ok(best) => chosen_marks(alloc, &eligible, &best.assigned, place)?,
-        Err(NoPlan::TooManyMust(_)) => chosen_marks(alloc, &eligible, &[], place)?,
-        Err(NoPlan::Memory) => return Err(AllocError),
-    };
+    let held = promised(alloc, exchange, left)?;
+    let chosen = best_beside(alloc, held, batch, &eligible, left)?;
     Ok(Choice { eligible, chosen })
 }

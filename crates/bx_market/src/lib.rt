@@ -4,11 +4,13 @@
 
 mod changing;
 mod choosing;
+mod keeping;
 pub mod laws;
+mod leaving;
 mod market;
 mod offering;
 mod running;
 
-pub use choosing::{is_promised, promised};
+pub use choosing::promised;
 pub use market::{Answer, Batch, Market, Request};
 pub use running::run_market;

@@ -2,7 +2,7 @@
 
 ghost use Rattle.std.specs.Prelude.{◌≡◌, ◌++◌, ◌∷◌, [], List};
 ghost use Rattle.bx_live.specs.Acts.{Act};
-ghost use Rattle.bx_market.specs.Deals.{Deal, Asked, Answered, ToldOfChange, all_ran};
+ghost use Rattle.bx_market.specs.Deals.{Deal, Asked, Answered, ToldOfChange, Lost, Moved, all_ran};
 
 use bx_base::{Booking, Bookings};
 use bx_day::Exchange;
@@ -56,6 +56,14 @@ pub trait Market: World {
     /// Tells the customer of the last change that it is done, or why it is not.
     fn answer_change(&mut self, answer: Result<(), NoChange>)
         ensures { dealt self.old (ToldOfChange answer ∷ []) self.new };
+
+    /// Shows the exchange where a channel is lost, before what is planned on it leaves it.
+    fn lost(&mut self, exchange: &Exchange)
+        ensures { dealt self.old (Lost exchange.now ∷ []) self.new };
+
+    /// Shows the exchange after that, when all that was done is on the disk; and tells whether it was done as a whole, or only as far as memory let it.
+    fn moved(&mut self, exchange: &Exchange, is_whole: bool)
+        ensures { dealt self.old (Moved exchange.now is_whole ∷ []) self.new };
 
     ghost dealt_by: { (v w : Self) (acts : List Act) → Self.did v acts w → dealt v (all_ran acts) w };
 

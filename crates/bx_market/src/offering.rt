@@ -2,7 +2,11 @@
 
 ghost use Rattle.std.specs.Prelude.{◌≡◌, ◌≤◌, ◌<◌, [], true, false, length, Ok, IfOk, OnOk};
 ghost use Rattle.bx_live.specs.Runs.{Between};
-ghost use Rattle.bx_market.specs.Choices.{eligible_marks, IsBestBatch};
+ghost use Rattle.bx_market.specs.Choices.{eligible_marks};
+ghost use Rattle.bx_market.specs.Choosing.{IsBestOnLeft};
+ghost use Rattle.bx_market.specs.Choosing.{chosen_rows};
+ghost use Rattle.bx_sales.specs.Left.{left_in_service};
+ghost use Rattle.bx_sales.specs.Sold.{AreSoldInTurn};
 ghost use Rattle.bx_market.specs.Stands.{Within, Filing, asked_batch};
 ghost use Rattle.bx_market.specs.Offers.{IsOfferSettled, OrOver, why_not, IsOfferedInAny, IsNotedInAny, NotesAny, TellsOfAny, TellsOfMemory};
 
@@ -14,10 +18,11 @@ use bx_day::Exchange;
 use bx_events::{Amendment, LiveEvent};
 use bx_live::CannotLog;
 use bx_planfile::spell_booking;
-use bx_sales::{NoSale, Tag, sale_line, sell, sell_all};
+use bx_sales::{NoSale, Tag, channels_left, sale_line, sell, sell_all};
 use std::alloc::{AllocError, Global};
 
-/// Sells one booking of a batch, where it fits beside all that is promised, and puts it in the journal, with the key of the batch.
+/// Sells one booking of a batch, where it fits on the channels that are left beside all that is promised, and puts it in the journal, with the key of the
+/// batch.
 fn offer<W: Market>(
     alloc: Global,
     exchange: &mut Exchange,
@@ -28,11 +33,12 @@ fn offer<W: Market>(
 ) -> Result<Answer, CannotLog>
     ensures offered { IsOfferedInAny W.dealt channels tag world.old world.new booking exchange.old exchange.new result }
     ensures moment { exchange.new.moment ≡ exchange.old.moment }
-    ensures settled { IsOfferSettled channels booking exchange.old exchange.new result }
+    ensures settled { IsOfferSettled (left_in_service channels exchange.old) booking exchange.old exchange.new result }
 {
     // Read for the prover alone, which learns from it that this is a booking.
     let _start = booking.start();
-    match sell(alloc, exchange, channels, &booking) {
+    let left = channels_left(exchange, channels);
+    match sell(alloc, exchange, left, &booking) {
         Ok(()) => {
             let line = sale_line(tag, &spell_booking(booking));
             world.log(LiveEvent::Amended(Amendment::Sold, &line))?;
@@ -68,7 +74,7 @@ fn settle<W: Market>(
 ) -> Result<Answer, CannotLog>
     ensures offered { IsOfferedInAny W.dealt channels tag world.old world.new booking exchange.old exchange.new result }
     ensures moment { exchange.new.moment ≡ exchange.old.moment }
-    ensures chosen { is_chosen ≡ true → IsOfferSettled channels booking exchange.old exchange.new result }
+    ensures chosen { is_chosen ≡ true → IsOfferSettled (left_in_service channels exchange.old) booking exchange.old exchange.new result }
     ensures left_out { is_chosen ≡ false → result ≡ Ok (Answer.Refused (why_not exchange.old.moment booking is_eligible)) }
 {
     if is_chosen {
@@ -149,6 +155,24 @@ fn note_all<W: Market>(
     tell(world, &answers, is_any_sold)
 }
 
+/// Sells the bookings that are chosen in one step, where that can be done. Whether it is.
+fn sell_at_once(
+    alloc: Global,
+    exchange: &mut Exchange,
+    left: ChannelSet,
+    batch: &Bookings,
+    choice: &Choice,
+) -> bool
+    requires { length choice.now.chosen.items ≡ length batch.now }
+    ensures sold { result ≡ true → AreSoldInTurn left (chosen_rows batch.now choice.now.chosen.items) exchange.old exchange.new }
+    ensures kept { result ≡ false → exchange.new ≡ exchange.old }
+{
+    match chosen_rows(alloc, batch, choice) {
+        Ok(chosen) => sell_all(alloc, exchange, left, &chosen).is_ok(),
+        Err(AllocError) => false,
+    }
+}
+
 /// Sells the bookings that are chosen, in the order of the rows; what is sold is on the disk before the customer is answered. All are sold in one step,
 /// where that can be done, and else one after another.
 fn sell_chosen<W: Market>(
@@ -161,15 +185,14 @@ fn sell_chosen<W: Market>(
     choice: &Choice,
 ) -> Result<(), CannotLog>
     requires eligible { choice.now.eligible.items ≡ eligible_marks exchange.old.moment (length exchange.old.entries) batch.now }
-    requires best { IsBestBatch channels exchange.old batch.now choice.now.chosen.items }
+    requires best { IsBestOnLeft channels exchange.old batch.now choice.now.chosen.items }
     ensures sold { OrOver W.dealt channels world.old world.new (Filing exchange.old exchange.old tag batch.now []) (Within (Between exchange.new)) result }
     ensures moment { OnOk result (exchange.new.moment ≡ exchange.old.moment) }
 {
     let moment = exchange.moment();
-    if let Ok(chosen) = chosen_rows(alloc, batch, choice) {
-        if sell_all(alloc, exchange, channels, &chosen).is_ok() {
-            return note_all(world, moment, tag, batch, choice);
-        }
+    let left = channels_left(exchange, channels);
+    if sell_at_once(alloc, exchange, left, batch, choice) {
+        return note_all(world, moment, tag, batch, choice);
     }
     sell_in_turn(alloc, exchange, world, channels, tag, batch, choice)
 }
@@ -185,7 +208,7 @@ fn sell_in_turn<W: Market>(
     choice: &Choice,
 ) -> Result<(), CannotLog>
     requires eligible { choice.now.eligible.items ≡ eligible_marks exchange.old.moment (length exchange.old.entries) batch.now }
-    requires best { IsBestBatch channels exchange.old batch.now choice.now.chosen.items }
+    requires best { IsBestOnLeft channels exchange.old batch.now choice.now.chosen.items }
     ensures sold { OrOver W.dealt channels world.old world.new (Filing exchange.old exchange.old tag batch.now []) (Within (Between exchange.new)) result }
     ensures moment { OnOk result (exchange.new.moment ≡ exchange.old.moment) }
 {
@@ -232,8 +255,8 @@ fn tell_of_memory<W: Market>(world: &mut W, exchange: &Exchange, batch: &Booking
     world.answer(&answers);
 }
 
-/// Sells the best choice among the bookings of a batch, in the order of the rows; what is sold is on the disk before the customer is
-/// answered.
+/// Sells the best choice among the bookings of a batch on the channels that are left, in the order of the rows; what is sold is on the disk before the
+/// customer is answered.
 pub(crate) fn offer_all<W: Market>(
     alloc: Global,
     exchange: &mut Exchange,

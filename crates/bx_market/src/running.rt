@@ -7,6 +7,7 @@ ghost use Rattle.bx_market.specs.Offers.{OrOver};
 ghost use Rattle.bx_market.specs.SaleRuns.{IsSaleRun};
 
 use crate::changing::{cancel_one, change_one};
+use crate::leaving::leave_lost;
 use crate::market::{Market, Request};
 use crate::offering::offer_all;
 use bx_base::ChannelSet;
@@ -89,6 +90,7 @@ pub fn run_market<W: Market>(
     ensures { IsSaleRun W.dealt channels world.old world.new exchange.old exchange.new last result }
 {
     for _second in exchange.moment()..LAST_MOMENT {
+        leave_lost(alloc, exchange, world, channels)?;
         ask_all(alloc, exchange, world, channels)?;
         if !goes_on(exchange, last) {
             return close_day(world);

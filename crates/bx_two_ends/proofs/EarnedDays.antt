@@ -80,7 +80,7 @@ pub after_both : (xs ys : List LiveEvent) (d : Day) → live_day_after (xs ++ ys
 after_both [] ys d = refl
 after_both (x ∷ xs) ys d = after_both xs ys (live_happens d x).day
 
-heard_is : (received : List (List ℕ)) (d : Day) → live_day_after (map (λ octets. OnLink (Receive octets)) received) d ≡ heard_in received d
+pub heard_is : (received : List (List ℕ)) (d : Day) → live_day_after (map (λ octets. OnLink (Receive octets)) received) d ≡ heard_in received d
 heard_is [] d = refl
 heard_is (octets ∷ rest) d = heard_is rest (receive_octets d octets).day
 

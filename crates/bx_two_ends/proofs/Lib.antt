@@ -64,3 +64,6 @@ pub mod RingNone
 pub mod RingMessages
 pub mod RingTurns
 pub mod RingEnds
+pub mod Amended
+pub mod NextPlan
+pub mod AmendedDays

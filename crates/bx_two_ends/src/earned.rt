@@ -5,7 +5,7 @@ ghost use Rattle.bx_base.specs.Bookings.{Row};
 ghost use Rattle.bx_day.specs.Day.{Day, opening};
 ghost use Rattle.bx_events.specs.Events.{Event};
 ghost use Rattle.bx_day.specs.Run.{day_after};
-ghost use Rattle.bx_two_ends.specs.Earning.{LiveSecond, AreAnswered, AreCleared};
+ghost use Rattle.bx_two_ends.specs.Earning.{LiveSecond, AreAnswered, AreCleared, IsAllAnswered, IsCleared};
 ghost use Rattle.bx_two_ends.specs.Asking.{is_touched, DayUntouched};
 ghost use Rattle.bx_calls.specs.PlainCalls.{PlainNetCall};
 ghost use Rattle.bx_calls.specs.Hearing.{Heard};
@@ -15,7 +15,10 @@ ghost use Rattle.bx_two_ends.specs.Earned.{IsCarriedOnceCalled, IsCarriedOnceTal
 ghost use Rattle.bx_two_ends.specs.Earned.{IsCarriedPunctually, AnswersByMessages, ClearsByMessages, IsAcceptedAsPlanned, IsPaidAsPlanned};
 ghost use Rattle.bx_two_ends.specs.Earned.{IsPaidUnbroken};
 ghost use Rattle.bx_two_ends.specs.LossyLink.{IsCarriedBehindOutages, IsCarriedBetweenOutages, IsCarriedThroughOutages, StaysInServiceBehindOutages};
+ghost use Rattle.bx_two_ends.specs.AmendedDays.{TurnsStay, IsEarnedAmended};
 ghost use Rattle.bx_records.specs.Totals as totals;
+
+use bx_sales::laws::one_day_by_journal;
 
 /// Where no message comes of a call that was Active in a second without a link, it is Active no more 9 seconds with a link
 /// later. Where the far end reports a call state of it that does not fit N10, it is Active no more at once (`reported`). And without
@@ -81,4 +84,16 @@ pub fn planned_is_paid()
 {
     plan_stays();
     planned_is_carried();
+}
+
+/// What is planned is earned as well on a day on which bookings are sold, given up and changed between its turns: each turn that was answered while the day
+/// ran is answered on the day of the last plan too (`answered`; `cleared` says the same of one that was cleared), and so that plan is earned, by its own
+/// channels (`earned`).
+pub fn amended_is_earned()
+    ensures answered { TurnsStay IsAllAnswered }
+    ensures cleared { TurnsStay IsCleared }
+    ensures earned { IsEarnedAmended }
+{
+    one_day_by_journal();
+    planned_is_paid();
 }

@@ -4,10 +4,12 @@ ghost use Rattle.bx_two_ends.specs.Scripts.{ScriptsFit};
 ghost use Rattle.bx_two_ends.specs.Lockstep.{FarAnswers};
 ghost use Rattle.bx_two_ends.specs.TwoEnds.{TwoEnds};
 ghost use Rattle.bx_two_ends.specs.TwoEndsInward.{TwoEndsInward};
+ghost use Rattle.bx_two_ends.specs.Amended.{TwoEndsAmended};
 ghost use Rattle.bx_two_ends.specs.Laws.{IsOneProcessInTurns, IsOneProcessCarried, IsOneProcessPaid, IsEngineDayInTurns, IsEngineDayCarried, IsEngineDayPaid};
 ghost use Rattle.bx_records.specs.Totals as totals;
 
 use bx_journal::Disk;
+use bx_sales::laws::one_day_by_journal;
 use std::io::{Read, Write};
 
 /// The two ends agree on each call that the exchange began (ITU-T Q.931, 5.2 and 5.3), whatever is lost, repeated,
@@ -25,6 +27,15 @@ pub fn two_ends()
 pub fn two_ends_inward()
     ensures { TwoEndsInward }
 {}
+
+/// Both laws hold as well of a day on which bookings are sold, given up and changed: wherever it stands, its bookings are those of the plan as the lines of
+/// the journal amend them, and the two ends agree on each call, whoever began it. The far end and all that is on its way are what they would be had the last
+/// plan been there from the morning on.
+pub fn two_ends_amended()
+    ensures { TwoEndsAmended }
+{
+    one_day_by_journal();
+}
 
 /// Every script that is read keeps the premise of both laws: its rows that call name a number of 1 to 15 digits and a
 /// B channel. That it has at most 16,000 rows is in the type of what `Script::read` answers.
