@@ -1,8 +1,8 @@
 -- What a file has of the events that were followed, and what is told of it.
 use Rattle.bx_events.specs.declared.rules.Rules.{Rules}
-use Rattle.std.proofs.Common.{◌≡◌, ℕ, Bool, true, is_some, List, [], ◌∷◌, ◌++◌, Option, Some, None, Result, Ok, Err, OnOk, refl, sym, ap, ◌∙◌, ◌+◌, subst}
+use Rattle.std.proofs.Common.{◌≡◌, ℕ, Bool, true, is_some, List, [], ◌∷◌, ◌++◌, length, Option, Some, None, Result, Ok, Err, OnOk, refl, sym, ap, ◌∙◌, ◌+◌, subst}
 use Rattle.std.specs.List.{flat_map}
-use Rattle.std.proofs.lemmas.List.{append-nil}
+use Rattle.std.proofs.lemmas.List.{append-nil, length-set}
 use Rattle.arrayvec.specs.ArrayVec.{ArrayVec}
 use Rattle.bx_base.specs.PlanParts.{parts_of}
 use Rattle.bx_day_openings.specs.Followed.{IsFollowedWhole}
@@ -32,12 +32,16 @@ use Rattle.bx_day.specs.Course.{exchange_next, exchange_sent}
 use Rattle.bx_day.specs.Outages.{live_happens}
 use Rattle.bx_planfile.specs.OneBooking.{row_on}
 use Rattle.bx_events.specs.declared.amendment.Amendment.{Amendment}
-use Rattle.bx_sales.specs.Amending.{AmendsDay}
+use Rattle.bx_events.specs.declared.amendment.Amendment.TheVariants.{Sold, Cancelled, Changed, SoldByRulesTwo, Delayed, Dropped, Out}
+use Rattle.bx_sales.specs.Amending.{AmendsDay, row_numbered}
 use Rattle.bx_day_openings.specs.Going.{IsStopped, GoesFrom}
 use Rattle.bx_day_openings.specs.Amendments.{IsBadAmendment}
 use Rattle.bx_day_openings.specs.Selling.{day_goes}
 use Rattle.bx_day_openings.specs.declared.amending.AmendmentFault.{AmendmentFault}
-use Rattle.bx_audit.specs.Followed.{IsLiveCaptured, Taken, IsTaken, IsRecaptured, taken_of}
+use Rattle.bx_audit.specs.Followed.{IsLiveCaptured, Taken, IsTaken, IsTakenNoted, IsRecaptured, taken_of}
+use Rattle.bx_day.specs.declared.outcome.GivenUp.{GivenUp}
+use Rattle.bx_day.specs.declared.outcome.GivenUp.TheVariants as how
+use Rattle.bx_sales.specs.GivenUps.{none_given_up, noted_of}
 use Rattle.bx_audit.specs.LiveCaptures.{live_packets_for, CapturesThrough}
 
 -- an event on the link
@@ -93,6 +97,16 @@ module _ {W : Type 0} (contents : W → Option (List ℕ)) (cs cs' : List Bool) 
     why = subst (λ (d : Day). IsBadAmendment cs kind line d fault) (sym day) why;
   }))
 
+-- the list of what was given up stays as long as it is
+pub noted_length : (given_up : List (Option GivenUp)) (kind : Amendment) (line : List ℕ) → length (noted_of given_up kind line) ≡ length given_up
+noted_length given_up Cancelled line = length-set given_up (row_numbered line) (Some how.Cancelled)
+noted_length given_up Dropped line = length-set given_up (row_numbered line) (Some how.Dropped)
+noted_length given_up Sold line = refl
+noted_length given_up Changed line = refl
+noted_length given_up SoldByRulesTwo line = refl
+noted_length given_up Delayed line = refl
+noted_length given_up Out line = refl
+
 pub stays_if : {W : Type 0} (contents : W → Option (List ℕ)) (cs : List Bool) (s : Option AmendmentFault) (a : Taken W) (events : List LiveEvent) → is_some s ≡ true → IsRecaptured contents cs cs s s a events a
 stays_if contents cs None a events is = cc
 stays_if contents cs (Some fault) a events is = (refl, (refl, refl))
@@ -130,15 +144,15 @@ opens_with gives name tied o is opened = record { plan = parts_of tied.plan; tie
 
 -- ---- what was followed to its end, or to a fault
 
-pub audited : {W : Type 0} (contents : W → Option (List ℕ)) (plan : List ℕ) (channels : List Bool) (before : Option (List ℕ)) (file : Option (Watched W)) (first : ℕ) (opened : Day) (b : Taken W) (r : Result (Unit {0}) DayCommandFault) (v : Unit {0}) → r ≡ Ok v
-    → OnOk r (IsFollowedWhole (IsTaken contents channels) (of_any_day plan) before (taken_of opened file first) b) → IsAudited plan channels before contents file b.file first opened b.day
-audited contents plan channels before file first opened b r v is followed =
-    let f = subst (λ (x : Result (Unit {0}) DayCommandFault). OnOk x (IsFollowedWhole (IsTaken contents channels) (of_any_day plan) before (taken_of opened file first) b)) is followed in
-    record { events = f.events; journal = f.journal; octets = f.all.octets; through = f.all.through; kept = f.all.kept }
+pub audited : {W : Type 0} (contents : W → Option (List ℕ)) (plan : List ℕ) (channels : List Bool) (before : Option (List ℕ)) (file : Option (Watched W)) (first : ℕ) (opened : Day) (b : Taken W) (given_up : List (Option GivenUp)) (r : Result (Unit {0}) DayCommandFault) (v : Unit {0}) → r ≡ Ok v
+    → OnOk r (IsFollowedWhole (IsTakenNoted contents channels) (of_any_day plan) before (taken_of opened file first, none_given_up) (b, given_up)) → IsAudited plan channels before contents file b.file first opened b.day given_up
+audited contents plan channels before file first opened b given_up r v is followed =
+    let f = subst (λ (x : Result (Unit {0}) DayCommandFault). OnOk x (IsFollowedWhole (IsTakenNoted contents channels) (of_any_day plan) before (taken_of opened file first, none_given_up) (b, given_up))) is followed in
+    record { events = f.events; journal = f.journal; octets = f.all.0.octets; through = f.all.0.through; kept = f.all.0.kept; noted = f.all.1 }
 
 -- of a journal that does not tell its octets
-pub untold : {W : Type 0} (contents : W → Option (List ℕ)) (plan : List ℕ) (channels : List Bool) (before : Option (List ℕ)) (file closed : Option (Watched W)) (first : ℕ) (opened day : Day) → IsAudited plan channels before contents file closed first opened day → IsAudited plan channels None contents file closed first opened day
-untold contents plan channels before file closed first opened day a = record { events = a.events; journal = record { text = a.journal.text; told = λ known is. absurd cc; are = a.journal.are }; octets = a.octets; through = a.through; kept = a.kept }
+pub untold : {W : Type 0} (contents : W → Option (List ℕ)) (plan : List ℕ) (channels : List Bool) (before : Option (List ℕ)) (file closed : Option (Watched W)) (first : ℕ) (opened day : Day) (given_up : List (Option GivenUp)) → IsAudited plan channels before contents file closed first opened day given_up → IsAudited plan channels None contents file closed first opened day given_up
+untold contents plan channels before file closed first opened day given_up a = record { events = a.events; journal = record { text = a.journal.text; told = λ known is. absurd cc; are = a.journal.are }; octets = a.octets; through = a.through; kept = a.kept; noted = a.noted }
 
 pub kept_so_far : {W : Type 0} (contents : W → Option (List ℕ)) (channels : List Bool) (file : Option (Watched W)) (first : ℕ) (opened : Day) (events : List LiveEvent) (b : Taken W) → IsTaken contents channels (taken_of opened file first) events b → IsKeptSoFar contents channels file b.file first opened
 kept_so_far contents channels file first opened events b t = record { events = events; day = b.day; octets = t.octets; through = t.through; kept = t.kept }

@@ -1,6 +1,8 @@
 mod Audited
 mod OnItsDay
 mod Held
+mod GivenChannels
+mod FirstFitAfter
 mod SalesAlone
 mod CheckedLast
 mod SoldDays
@@ -8,3 +10,4 @@ mod BestAfter
 mod SeenDays
 mod Handed
 mod AuditAnswers
+mod ByName

@@ -1,32 +1,30 @@
 -- The last plan of a day that is told.
-use Rattle.std.proofs.Common.{◌≡◌, ◌∙◌, ℕ, ◌≤◌, Bool, true, not, List, ◌++◌, map, is_some, length, Option, Result, sym, ap, ap₂, subst, arith}
-use Rattle.std.proofs.lemmas.List.{length-map}
+use Rattle.std.proofs.Common.{◌≡◌, ◌∙◌, ℕ, ◌≤◌, Bool, true, List, ◌++◌, map, is_some, length, Option, Result, sym, ap, ap₂, subst, arith}
 use Rattle.bx_base.specs.Bookings.{Row, Carries, IsLawful, pay_of}
 use Rattle.bx_base.specs.PlanParts.{Parts}
 use Rattle.bx_base.specs.Plans.{is_accepted, channel_at}
 use Rattle.bx_check.specs.Check.{IsOutcome}
 use Rattle.bx_check.specs.declared.checker.CheckFault.{CheckFault}
-use Rattle.bx_colour.specs.Colouring.{FitsChannels, IsFirstFit, is_in}
-use Rattle.bx_day.specs.Day.{Day}
-use Rattle.bx_day.specs.Invariant.{is_refused}
-use Rattle.bx_day.specs.declared.entry.Entry.{Entry}
+use Rattle.bx_colour.specs.Colouring.{IsFirstFit, is_in}
+use Rattle.bx_day.specs.Day.{Day, opening}
+use Rattle.bx_day.specs.Outages.{live_day_after}
 use Rattle.bx_events.specs.Events.{LiveEvent}
 use Rattle.bx_planfile.specs.OneBooking.{row_on}
 use Rattle.bx_planner.specs.Choices.{IsBest, planned}
 use Rattle.bx_planner.specs.Musts.{IsTooManyMust}
 use Rattle.bx_planner.proofs.FewMusts.{few_musts}
-use Rattle.bx_day_openings.specs.Selling.{day_goes}
-use Rattle.bx_sales.specs.Journal.{sold_in, rows_after, marks_after, HasLastPlan}
-use Rattle.bx_sales.specs.Selling.{marks_of}
-use Rattle.bx_sales.proofs.Fitting.{fitting, marked_so}
+use Rattle.bx_sales.specs.Journal.{sold_in, rows_after, marks_after, RunsThrough, AreAllLeft, HasLastPlan}
+use Rattle.bx_sales.proofs.Fitting.{marked_so}
 use Rattle.bx_sales.proofs.Journal.{amended_plan}
-use Rattle.bx_sales.proofs.Rows.{first_fit_marks}
 use Rattle.bx_audit.proofs.BestAfter.{still_lawful, still_best}
 use Rattle.bx_audit.proofs.CheckedLast.{told}
-use Rattle.bx_audit.proofs.Held.{held_length, held_of, held_carries, held_lawful, all_held}
+use Rattle.bx_audit.proofs.FirstFitAfter.{stays_first_fit}
+use Rattle.bx_audit.proofs.GivenChannels.{channels_now}
+use Rattle.bx_audit.proofs.Held.{held_of, held_carries, held_lawful, held_first_fit, all_held}
 use Rattle.bx_audit.proofs.SalesAlone.{rows_by_sales, marks_by_sales}
-use Rattle.bx_audit.specs.HeldRows.{row_held, rows_as_held}
-use Rattle.bx_audit.specs.LastPlans.{has_sales_alone, IsLastOutcome, IsLastPlan}
+use Rattle.bx_audit.specs.DayChannels.{channels_on}
+use Rattle.bx_audit.specs.HeldRows.{rows_as_held}
+use Rattle.bx_audit.specs.LastPlans.{has_sales_alone, HasFirstFit, IsLastOutcome, IsLastPlan}
 use Rattle.bx_audit.specs.PlansOfDays.{rows_held_on, ArePrices, IsPlanOfDay}
 use Rattle.bx_audit.specs.Recorded.{IsDayTold}
 
@@ -67,20 +65,24 @@ module _ (gives : List ℕ → Option (List ℕ) → Type 0) (plan journal : Lis
 
   -- ---- the day
 
+  went : RunsThrough channels row_on events (opening morning.rows morning.assigned) day
+  went = subst (λ (d : Day). RunsThrough channels row_on events d day) of_day.opens.opens of_day.through.through
+
   has_plan : HasLastPlan channels rows marks events day
-  has_plan =
-      amended_plan channels row_on morning.rows morning.assigned events day count of_day.opens.tied.2.limits.rows carried
-      (subst (λ (d : Day). day_goes channels d events day) of_day.opens.opens of_day.through.through)
+  has_plan = amended_plan channels row_on morning.rows morning.assigned events day count of_day.opens.tied.2.limits.rows carried went
+
+  channels_are : channels_on day ≡ has_plan.last
+  channels_are = let h = has_plan in ap channels_on h.day ∙ channels_now rows channels h.last events h.one_each h.bookings h.carried
+
+  -- where the morning is first fit, and no channel was lost, so are these
+  still_first : AreAllLeft channels day → HasFirstFit morning → IsFirstFit all channels marks (channels_on day)
+  still_first whole first =
+      held_first_fit rows marks channels marks (channels_on day)
+      (stays_first_fit channels row_on morning.rows morning.assigned events day count of_day.opens.tied.2.limits.rows carried
+      (subst (λ (cs : List Bool). IsFirstFit morning.rows cs (map is_some morning.assigned) morning.assigned) (sym of_day.opens.in_service) first) went whole)
 
   held_on : rows_held_on day ≡ all
   held_on = held_of day.entries ∙ ap₂ (λ (rs : List Row) (ms : List Bool). rows_as_held rs ms) has_plan.rows_are has_plan.marks_are
-
-  pub day_fits : FitsChannels (rows_held_on day) (marks_of day) channels
-  day_fits =
-      let h = has_plan in
-      subst (λ (rs : List Row). FitsChannels rs (marks_of day) channels) (sym held_on)
-      (subst (λ (ms : List Bool). FitsChannels all ms channels) (h.accepted ∙ sym h.marks_are)
-      (fitting all channels h.last (h.one_each ∙ sym (held_length rows marks)) (held_carries rows marks channels (is_accepted h.last) (channel_at h.last) h.carried)))
 
   pub day_room : (t : ℕ) → IsTooManyMust (rows_held_on day) channels t → ⊥
   day_room t many =
@@ -114,15 +116,16 @@ module _ (gives : List ℕ → Option (List ℕ) → Type 0) (plan journal : Lis
   -- ---- its last plan
 
   module _ (last : Parts) (p : IsPlanOfDay day channels last) where
+    assigned_are : last.assigned ≡ has_plan.last
+    assigned_are = p.assigned_are ∙ channels_are
+
     accepted : map is_some last.assigned ≡ marks
-    accepted =
-        let marked : length (marks_of day) ≡ length (rows_held_on day) =
-        length-map day.entries (λ (e : Entry). not (is_refused e.standing)) ∙ sym (length-map day.entries (λ (e : Entry). row_held e.booking (not (is_refused e.standing)))) in
-        first_fit_marks (rows_held_on day) channels (marks_of day) last.assigned marked p.first_fit ∙ has_plan.marks_are
+    accepted = ap (λ (a : List (Option ℕ)). map is_some a) assigned_are ∙ has_plan.accepted
 
     checked : (outcome : Result ℕ CheckFault) × IsOutcome last.rows last.channels last outcome × IsLastOutcome events outcome
     checked =
-        let carries = subst (λ (rs : List Row). Carries rs channels (is_accepted last.assigned) (channel_at last.assigned)) held_on p.carried in
+        let h = has_plan in
+        let carries = subst (λ (a : List (Option ℕ)). Carries all channels (is_accepted a) (channel_at a)) (sym assigned_are) (held_carries rows marks channels (is_accepted h.last) (channel_at h.last) h.carried) in
         let prices = subst (λ (rs : List Row). ArePrices rs channels last.prices) held_on p.priced in
         let paid = subst (λ (rs : List Row). last.total ≡ pay_of rs (is_accepted last.assigned)) held_on p.paid in
         let holds = held_lawful rows marks channels (is_accepted last.assigned) (channel_at last.assigned) (λ i. sym (marked_so last.assigned i) ∙ ap (λ (ms : List Bool). is_in ms i) accepted) carries in
@@ -133,11 +136,11 @@ module _ (gives : List ℕ → Option (List ℕ) → Type 0) (plan journal : Lis
           t.2,
         )
 
-    first_fit : IsFirstFit last.rows last.channels marks last.assigned
-    first_fit =
-        subst (λ (rs : List Row). IsFirstFit rs last.channels marks last.assigned) (sym p.rows_are)
-        (subst (λ (ms : List Bool). IsFirstFit (rows_held_on day) last.channels ms last.assigned) has_plan.marks_are
-        (subst (λ (cs : List Bool). IsFirstFit (rows_held_on day) cs (marks_of day) last.assigned) (sym p.in_service) p.first_fit))
+    first_fit : AreAllLeft last.channels day → HasFirstFit morning → IsFirstFit last.rows last.channels marks last.assigned
+    first_fit whole first =
+        subst (λ (a : List (Option ℕ)). IsFirstFit last.rows last.channels marks a) (sym p.assigned_are)
+        (subst (λ (rs : List Row). IsFirstFit rs last.channels marks (channels_on day)) (sym (p.rows_are ∙ held_on))
+        (subst (λ (cs : List Bool). IsFirstFit all cs marks (channels_on day)) (sym p.in_service) (still_first (subst (λ (cs : List Bool). AreAllLeft cs day) p.in_service whole) first)))
 
     pub last_of : IsLastPlan gives plan journal last
     last_of = record {
@@ -148,12 +151,18 @@ module _ (gives : List ℕ → Option (List ℕ) → Type 0) (plan journal : Lis
       given = of_day.given;
       events = events;
       on_log = of_day.through.journal;
+      day = day;
+      through = subst (λ (cs : List Bool). RunsThrough cs row_on events (opening morning.rows morning.assigned) day) (sym p.in_service) went;
       rows_are = p.rows_are ∙ held_on;
       in_service = p.in_service ∙ of_day.opens.in_service;
+      accepted = accepted;
+      assigned_are = p.assigned_are;
+      of_plan = subst (λ (a : List (Option ℕ)). day ≡ live_day_after events (opening rows a)) (sym assigned_are) has_plan.day;
       first_fit = first_fit;
       sold_on = λ alone. record {
         rows_are = p.rows_are ∙ held_on ∙ sold_rows alone;
-        first_fit = subst (λ (ms : List Bool). IsFirstFit last.rows last.channels ms last.assigned) (sold_marks alone) first_fit;
+        accepted = accepted ∙ sold_marks alone;
+        first_fit = λ whole first. subst (λ (ms : List Bool). IsFirstFit last.rows last.channels ms last.assigned) (sold_marks alone) (first_fit whole first);
       };
       outcome = checked.0;
       checked = checked.1;

@@ -1,5 +1,5 @@
 -- Private: what its functions promise one another.
-use Rattle.std.specs.Prelude.{◌≡◌, ◌⊎◌, ℕ, Bool, true, List, Option}
+use Rattle.std.specs.Prelude.{◌≡◌, ◌⊎◌, ℕ, Bool, true, List, Option, Some, None}
 use Rattle.std.specs.Io.KnownBytes.{Appends}
 use Rattle.bx_base.specs.PlanParts.{Parts, IsPlan}
 use Rattle.bx_calendar.specs.declared.clock.Clock.{Clock}
@@ -7,12 +7,14 @@ use Rattle.bx_capture.specs.Captures.{is_unfaulted}
 use Rattle.bx_check_commands.specs.declared.fault.CommandFault.TheVariants.{CannotWrite, Memory}
 use Rattle.bx_day.specs.Day.{Day}
 use Rattle.bx_day.specs.declared.entry.Entry.{Entry}
+use Rattle.bx_day.specs.declared.outcome.GivenUp.{GivenUp}
+use Rattle.bx_request.specs.declared.request.CaptureWords.{CaptureWords}
 use Rattle.bx_day_chart.specs.Charts.{IsDayCut}
 use Rattle.bx_day_chart.specs.Counting.{is_day_over}
 use Rattle.bx_day_chart.specs.Sights.{Sight}
 use Rattle.bx_day_openings.specs.OpeningRefusals.{IsNoOpening}
 use Rattle.bx_day_openings.specs.Recording.{answer_for}
-use Rattle.bx_day_openings.specs.Replays.{IsDayThrough, HasNoReplay}
+use Rattle.bx_day_openings.specs.Replays.{IsDayThrough}
 use Rattle.bx_day_openings.specs.TiedDays.{IsOpeningOf}
 use Rattle.bx_day_openings.specs.declared.fault.DayCommandFault.{DayCommandFault}
 use Rattle.bx_day_openings.specs.declared.fault.DayCommandFault.TheVariants.{Command}
@@ -33,14 +35,23 @@ use Rattle.bx_audit.specs.Unrecorded.{IsNoJournalOf}
 -- ---- of an audit
 
 -- the day from this opening after just the events and amendments of a journal, and whether the file has taken all of its packets
-pub record IsAuditedInto {F : Type 0} (contents : F → Option (List ℕ)) (opening : DayOpening) (before : Option (List ℕ)) (file : Option (Watched F)) (first : ℕ) (day : Day) (is_whole : Bool) : Type 0 where
+pub record IsAuditedInto {F : Type 0} (contents : F → Option (List ℕ)) (opening : DayOpening) (before : Option (List ℕ)) (file : Option (Watched F)) (first : ℕ) (day : Day) (given_up : List (Option GivenUp)) (is_whole : Bool) : Type 0 where
   pub closed : Option (Watched F)
-  pub audited : IsOpeningAudited opening before contents file closed first day
+  pub audited : IsOpeningAudited opening before contents file closed first day given_up
   pub whole : is_whole ≡ is_unfaulted closed
 
--- there is no plan that is proved, or one, and its journal in a file is none
-abbrev pub IsUnreadThrough : (List ℕ → Option (List ℕ) → Type 0) → List ℕ → List ℕ → DayCommandFault → Type 0
-IsUnreadThrough gives plan journal fault = IsNoOpening plan fault ⊎ ((opened : Day) × (channels : List Bool) × (digest : List ℕ) × IsOpeningOf gives plan opened channels digest × HasNoReplay journal (of_any_day digest) channels opened fault)
+-- whatever the name, this is there to read
+abbrev pub GivesJust : Option (List ℕ) → List ℕ → Option (List ℕ) → Type 0
+GivesJust before name text = text ≡ before
+
+-- where there is to be a capture, this holds
+abbrev pub IsReadFor : Option CaptureWords → Type 0 → Type 0
+IsReadFor None P = Unit {0}
+IsReadFor (Some capture) P = P
+
+-- there is no plan that is proved, or one, and its journal is none
+abbrev pub IsUnreadThrough : (List ℕ → Option (List ℕ) → Type 0) → (List ℕ → Option (List ℕ) → Type 0) → List ℕ → List ℕ → DayCommandFault → Type 0
+IsUnreadThrough gives journals plan journal fault = IsNoOpening plan fault ⊎ ((opened : Day) × (channels : List Bool) × (digest : List ℕ) × IsOpeningOf gives plan opened channels digest × IsNoJournalOf journals journal digest channels opened fault)
 
 -- ---- of records
 

@@ -5,7 +5,7 @@ use Rattle.bx_capture.specs.Keeping.{keeps_nil, keeps_more}
 use Rattle.bx_day.specs.Day.{Day}
 use Rattle.bx_day.specs.Outages.{live_happens}
 use Rattle.bx_day_openings.specs.Going.{GoesFrom}
-use Rattle.bx_day_openings.specs.Joined.{goes_nothing, goes_more}
+use Rattle.bx_day_openings.specs.Joined.{goes_nothing, goes_more, was_right, noted_after}
 use Rattle.bx_day_openings.specs.declared.amending.AmendmentFault.{AmendmentFault}
 use Rattle.bx_audit.specs.Followed.{Taken, IsTaken, IsRecaptured, taken_from, HasRecaptured}
 use Rattle.bx_audit.specs.LiveCaptures.{live_packets_for, CapturesThrough}
@@ -42,7 +42,11 @@ module _ {W : Type 0} (contents : W → Option (List ℕ)) where
 
   -- the same of what follows a journal
   pub recaptured_nothing : (a : Recaptured W) → HasRecaptured contents a [] a
-  recaptured_nothing a = followed_nothing a.channels a.fault (taken_from a)
+  recaptured_nothing a = (followed_nothing a.channels a.fault (taken_from a), λ whole. refl)
 
   pub recaptured_on : (a b c : Recaptured W) (xs ys : List LiveEvent) → HasRecaptured contents a xs b → HasRecaptured contents b ys c → HasRecaptured contents a (xs ++ ys) c
-  recaptured_on a b c xs ys p q = followed_on a.channels b.channels c.channels a.fault b.fault c.fault (taken_from a) (taken_from b) (taken_from c) xs ys p q
+  recaptured_on a b c xs ys (p, notes) (q, notes') = (
+    followed_on a.channels b.channels c.channels a.fault b.fault c.fault (taken_from a) (taken_from b) (taken_from c) xs ys p q,
+    λ whole. noted_after a.given_up.items b.given_up.items c.given_up.items xs ys
+        (notes (was_right (IsTaken contents b.channels) (λ (t : Taken W). t.day) b.channels (taken_from b) (taken_from c) ys b.fault c.fault q.1 whole)) (notes' whole),
+  )

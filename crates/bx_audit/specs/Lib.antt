@@ -1,11 +1,13 @@
 pub mod LiveCaptures
 pub mod Joined
 pub mod Followed
+pub mod Given
 pub mod Audits
 pub mod AuditRefusals
 pub mod Recorded
 pub mod Unrecorded
 pub mod HeldRows
+pub mod DayChannels
 pub mod PlansOfDays
 pub mod LastPlans
 pub mod Unsold

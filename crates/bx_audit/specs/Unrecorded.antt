@@ -1,7 +1,7 @@
 -- Why the records of a day are not written by its journal, and what was written then.
 use Rattle.std.specs.Prelude.{◌≡◌, ◌⊎◌, ℕ, Bool, List, Option}
 use Rattle.bx_calendar.specs.declared.clock.Clock.{Clock}
-use Rattle.bx_check_commands.specs.declared.fault.CommandFault.TheVariants.{CannotRead, CannotWrite}
+use Rattle.bx_check_commands.specs.declared.fault.CommandFault.TheVariants.{CannotRead, CannotWrite, Memory}
 use Rattle.bx_day.specs.Day.{Day}
 use Rattle.bx_day_openings.specs.OpeningRefusals.{IsNoOpening}
 use Rattle.bx_day_openings.specs.Recording.{IsClockOf, IsNoClock, answer_for}
@@ -19,13 +19,14 @@ use Rattle.bx_day_openings.specs.Replays.{HasBadAmendment}
 use Rattle.bx_day_openings.specs.TiedDays.{IsOpeningOf}
 use Rattle.bx_audit.specs.Recorded.{IsDayTold}
 
--- the input of this name is not read, or just this is the first fault of the text that it gave, or it has a line that amends the plan and is none of its day
+-- the input of this name is not read, memory ran out, or just this is the first fault of the text that it gave, or it has a line that amends the plan and is none of its day
 abbrev pub IsNoJournalOf : (List ℕ → Option (List ℕ) → Type 0) → List ℕ → List ℕ → List Bool → Day → DayCommandFault → Type 0
 IsNoJournalOf gives name plan channels opened (Journal (BadLine n)) = (before : Option (List ℕ)) × gives name before × IsNoJournalText (of_any_day plan) before (BadLine n)
 IsNoJournalOf gives name plan channels opened (Journal OtherPlan) = (before : Option (List ℕ)) × gives name before × IsNoJournalText (of_any_day plan) before OtherPlan
 IsNoJournalOf gives name plan channels opened (Journal OtherDay) = (before : Option (List ℕ)) × gives name before × IsNoJournalText (of_any_day plan) before OtherDay
 IsNoJournalOf gives name plan channels opened (Journal OtherRules) = (before : Option (List ℕ)) × gives name before × IsNoJournalText (of_any_day plan) before OtherRules
 IsNoJournalOf gives name plan channels opened (Command (CannotRead n)) = n.now ≡ name
+IsNoJournalOf gives name plan channels opened (Command Memory) = Unit {0}
 IsNoJournalOf gives name plan channels opened (Amendment why) = (before : Option (List ℕ)) × gives name before × HasBadAmendment channels (of_any_day plan) before opened why
 IsNoJournalOf gives name plan channels opened _ = ⊥
 

@@ -48,7 +48,7 @@ pub(crate) struct Seen {
 
 /// The exchange after the events of a journal of this name, with the outages of its link; what it says amends the plan is done
 /// again, on the channels in service. It is read once, in pieces. It is refused as `replay_journal` refuses it, or as `Command`, by `Memory`, where
-/// memory ran out as an outage was noted.
+/// memory ran out as the list of what is given up was made or an outage was noted.
 pub(crate) fn seen_by<'a, R: Read>(
     alloc: Global,
     name: &'a str,
@@ -60,8 +60,9 @@ pub(crate) fn seen_by<'a, R: Read>(
     ensures through { IfOk result (λ s. IsSeenThrough channels wanted.now (R.remaining (device_of journal.old)) exchange s.exchange s.outages.spans.items) }
     ensures refused { IfErr result (IsNotSeenAsRead name.now wanted.now channels exchange (reading_of R.remaining journal.old journal.new)) }
 {
+    let selling = Selling::new(alloc, channels, exchange)?;
     let mut charting = Charting {
-        selling: Selling::new(alloc, channels, exchange),
+        selling,
         noting: Noting::new(alloc),
     };
     let whole = read_journal(journal, wanted, &mut charting);

@@ -7,24 +7,26 @@ ghost use Rattle.bx_journal.specs.Events.{logged_event};
 
 use bx_base::ChannelSet;
 use bx_capture::{Captured, Direction, keep, keep_reply};
-use bx_day::Exchange;
+use bx_day::{Exchange, GivenUp};
 use bx_day_openings::{AmendmentFault, amend_again};
 use bx_events::Amendment;
 use bx_frames::End;
 use bx_journal::{Follower, LoggedEvent};
 use bx_q931::Octets;
+use bx_sales::note;
 use std::alloc::Global;
 use std::io::Write;
 
 /// An exchange to which the events of a journal happen, and whose plan is amended again as the journal says; and the file, if there is one, into
 /// which the packets of its messages are written as they were on their day: what it sends for an event is known by the events before. From the first
-/// line on that amends the plan and is none of its day it stays as it was there, with why.
+/// line on that amends the plan and is none of its day it stays as it was there, with why. Until then it notes how bookings were given up.
 #[derive(Drop)]
 pub(crate) struct Recaptured<W: Write> {
     pub(crate) alloc: Global,
     pub(crate) channels: ChannelSet,
     pub(crate) captured: Captured<Exchange, W>,
     pub(crate) fault: Option<AmendmentFault>,
+    pub(crate) given_up: Vec<Option<GivenUp>>,
 }
 
 /// A second on the link.
@@ -59,8 +61,9 @@ impl<W: Write> Recaptured<W> {
         ensures { self.old.fault ≡ None → HasRecaptured W.contents self.old (Amended kind line.now ∷ []) self.new }
     {
         let exchange = &mut self.captured.end;
-        if let Err(fault) = amend_again(self.alloc, exchange, self.channels, kind, line) {
-            self.fault = Some(fault);
+        match amend_again(self.alloc, exchange, self.channels, kind, line) {
+            Ok(()) => note(&mut self.given_up, kind, line),
+            Err(fault) => self.fault = Some(fault),
         }
     }
 

@@ -1,20 +1,20 @@
 //! The last plan of a day.
 
 ghost use Rattle.std.specs.Prelude.{◌≡◌, ℕ, not, map, length, IfOk};
+ghost use Rattle.std.specs.List.{AllByRecursion};
 ghost use Rattle.bx_base.specs.Bookings.{pay_of};
 ghost use Rattle.bx_base.specs.PlanParts.{parts_of};
 ghost use Rattle.bx_base.specs.Plans.{is_accepted};
-ghost use Rattle.bx_colour.specs.Colouring.{FitsChannels};
 ghost use Rattle.bx_day.specs.Invariant.{is_refused};
+ghost use Rattle.bx_day.specs.Reading.{Seated};
 ghost use Rattle.bx_planner.specs.Musts.{IsTooManyMust};
-ghost use Rattle.bx_sales.specs.Selling.{marks_of};
+ghost use Rattle.bx_audit.specs.DayChannels.{channel_on};
 ghost use Rattle.bx_audit.specs.HeldRows.{row_held};
 ghost use Rattle.bx_audit.specs.PlansOfDays.{rows_held_on, ArePrices, IsPlanOfDay};
 
 use bx_base::{Booking, Bookings, ChannelSet, Plan, Price};
 use bx_channels::Channel;
-use bx_colour::colour;
-use bx_day::{Entry, Exchange, Standing};
+use bx_day::{Entry, Exchange};
 use bx_planner::{NoPlan, plan};
 use std::alloc::{AllocError, Global};
 
@@ -36,15 +36,6 @@ fn as_held(booking: &Booking, accepted: bool) -> Booking
     }
 }
 
-fn is_accepted(standing: Standing) -> bool
-    ensures { result ≡ not (is_refused standing) }
-{
-    match standing {
-        Standing::Refused => false,
-        _ => true,
-    }
-}
-
 /// The bookings of these entries, of which none that is refused has to be held.
 fn rows_in(alloc: Global, entries: &[Entry]) -> Result<Bookings, AllocError>
     ensures { IfOk result (λ b. b ≡ map (λ e. row_held e.booking (not (is_refused e.standing))) entries.now) }
@@ -52,7 +43,7 @@ fn rows_in(alloc: Global, entries: &[Entry]) -> Result<Bookings, AllocError>
     let mut rows = Bookings::new(alloc);
     for index in 0..entries.len() {
         let entry = &entries[index];
-        let held = as_held(&entry.booking, is_accepted(entry.standing));
+        let held = as_held(&entry.booking, !entry.standing.is_refused());
         if rows.push(held).is_err() {
             return Err(AllocError);
         }
@@ -60,15 +51,31 @@ fn rows_in(alloc: Global, entries: &[Entry]) -> Result<Bookings, AllocError>
     Ok(rows)
 }
 
-/// Which of these are accepted.
-fn marks_in(alloc: Global, entries: &[Entry]) -> Result<Vec<bool>, AllocError>
-    ensures { IfOk result (λ v. v.items ≡ map (λ e. not (is_refused e.standing)) entries.now) }
+/// The channel of a booking that is accepted.
+fn channel_of(entry: &Entry) -> Option<Channel>
+    requires { Seated entry.now }
+    ensures { result ≡ channel_on entry.now }
 {
-    let mut marks = Vec::new(alloc);
-    for index in 0..entries.len() {
-        marks.push(is_accepted(entries[index].standing))?;
+    if entry.standing.is_refused() {
+        return None;
     }
-    Ok(marks)
+    let Some(channel) = Channel::new(entry.channel) else {
+        unreachable!()
+    };
+    Some(channel)
+}
+
+/// The same of each of these.
+fn channels_in(alloc: Global, entries: &[Entry]) -> Result<Vec<Option<Channel>>, AllocError>
+    requires { AllByRecursion Seated entries.now }
+    ensures { IfOk result (λ v. v.items ≡ map channel_on entries.now) }
+{
+    let mut channels = Vec::new(alloc);
+    for index in 0..entries.len() {
+        let channel = channel_of(&entries[index]);
+        channels.push(channel)?;
+    }
+    Ok(channels)
 }
 
 /// What the accepted rows pay together.
@@ -100,20 +107,20 @@ fn prices_of(alloc: Global, rows: &Bookings, channels: ChannelSet) -> Result<Vec
     }
 }
 
-/// The last plan of a day: its bookings, with the channels of first fit for those that it has accepted, what these pay, and the prices of a best plan of all.
-/// None that is refused has to be held. At no moment may more of them run, or have to be held, than there are channels. `AllocError` where memory runs out.
+/// The last plan of a day: its bookings, those that it has accepted on the channels that they have, what these pay, and the prices of a best plan of all.
+/// None that is refused has to be held. At no moment may more have to be held than there are channels. `AllocError` where memory runs out.
 pub(crate) fn last_plan(
     alloc: Global,
     exchange: &Exchange,
     channels: ChannelSet,
 ) -> Result<Plan, AllocError>
-    requires fits { FitsChannels (rows_held_on exchange.now) (marks_of exchange.now) channels }
-    requires room { (t : ℕ) → IsTooManyMust (rows_held_on exchange.now) channels t → ⊥ }
+    requires { (t : ℕ) → IsTooManyMust (rows_held_on exchange.now) channels t → ⊥ }
     ensures { IfOk result (λ p. IsPlanOfDay exchange.now channels (parts_of p)) }
 {
+    // Read for the prover alone, which learns from it that each channel is one.
+    let _moment = exchange.moment();
     let rows = rows_in(alloc, exchange.entries())?;
-    let marks = marks_in(alloc, exchange.entries())?;
-    let assigned = colour(alloc, &rows, &marks, channels)?;
+    let assigned = channels_in(alloc, exchange.entries())?;
     let prices = prices_of(alloc, &rows, channels)?;
     let total = total_pay(&rows, &assigned);
     match Plan::new(rows, channels, assigned, prices, total) {

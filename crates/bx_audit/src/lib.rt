@@ -8,6 +8,7 @@ mod following;
 mod last_plans;
 pub mod laws;
 mod noting;
+mod opens;
 mod recorded_files;
 mod sold_plans;
 mod telling;
@@ -15,6 +16,7 @@ mod told_days;
 
 pub use audited_files::audit_files;
 pub use charted_files::chart_day_files;
+pub use opens::Opens;
 pub use recorded_files::record_files;
 pub use sold_plans::sold_files;
-pub use telling::audited_day;
+pub use telling::{AuditedDay, audited_day};

@@ -1,10 +1,8 @@
 //! The command that writes the last plan of a day by its journal.
 
 ghost use Rattle.std.specs.Prelude.{ℕ, IfErr, OnOk};
-ghost use Rattle.bx_colour.specs.Colouring.{FitsChannels};
 ghost use Rattle.bx_devices.specs.Devices.{writing_of};
 ghost use Rattle.bx_planner.specs.Musts.{IsTooManyMust};
-ghost use Rattle.bx_sales.specs.Selling.{marks_of};
 ghost use Rattle.bx_audit.specs.PlansOfDays.{rows_held_on};
 ghost use Rattle.bx_audit.specs.LastPlans.{IsSoldTold};
 ghost use Rattle.bx_audit.specs.Inside.{IsPlanWritten, IsPlanUnwritten};
@@ -26,8 +24,7 @@ fn write_last<'a, W: Write>(
     day: &ToldDay,
     output: &mut Watched<W>,
 ) -> Result<(), DayCommandFault<'a>>
-    requires fits { FitsChannels (rows_held_on day.now.exchange) (marks_of day.now.exchange) day.now.channels }
-    requires room { (t : ℕ) → IsTooManyMust (rows_held_on day.now.exchange) day.now.channels t → ⊥ }
+    requires { (t : ℕ) → IsTooManyMust (rows_held_on day.now.exchange) day.now.channels t → ⊥ }
     ensures written { OnOk result (IsPlanWritten day.now.exchange day.now.channels (writing_of W.contents output.old output.new)) }
     ensures unwritten { IfErr result (IsPlanUnwritten day.now.exchange day.now.channels W.contents output.old output.new) }
 {
@@ -42,8 +39,8 @@ fn write_last<'a, W: Write>(
 
 /// Writes the text of the last plan of a day, by the plan of its morning and by its journal: of a day that has ended, or that is still running. It has the
 /// bookings of the morning, and after them those that the journal says were sold, as accepted; each is as it was changed last, and what was given up is
-/// refused, and need not be held. The channels are those of first fit. Prices prove it where nothing was given up or changed; else another choice of these
-/// bookings may pay more, and its check then says `C7`. At a refusal nothing was written, except that where the output failed a prefix of the text was.
+/// refused, and need not be held. The channels are those that they have on that day. Prices prove it where nothing was given up or changed; else another
+/// choice of these bookings may pay more, and its check then says `C7`. At a refusal nothing was written, except that where the output failed a prefix of the text was.
 ///
 /// What is needed is opened in this order, and the first fault of it is answered: `Command` for the plan; `Command`, as `CannotRead`, `Journal`, as
 /// `BadLine`, `OtherPlan` or `OtherRules`, or `Amendment` for the journal. Then `Command`, as `Memory` where memory ran out, and as

@@ -6,3 +6,4 @@ pub mod ToldJournals
 pub mod Replays
 mod FollowedEvents
 mod DayFaults
+mod Takeovers

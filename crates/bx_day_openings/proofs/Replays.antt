@@ -1,5 +1,5 @@
 -- Days that went through journals, of what followed these.
-use Rattle.std.proofs.Common.{◌≡◌, ◌∙◌, ◌⊎◌, inl, inr, ℕ, Bool, List, [], ◌∷◌, ◌++◌, length, Option, Some, None, Result, Ok, Err, OnOk, sym, subst, append_assoc}
+use Rattle.std.proofs.Common.{◌≡◌, ◌∙◌, ◌⊎◌, inl, inr, ℕ, Bool, List, [], ◌∷◌, ◌++◌, length, Option, Some, None, Result, Ok, Err, OnOk, ap, sym, subst, append_assoc}
 use Rattle.std.specs.Prelude.{IfOk}
 use Rattle.std.specs.Io.KnownBytes.{Consumes}
 use Rattle.std.proofs.lemmas.List.{append-nil}
@@ -7,11 +7,13 @@ use Rattle.bx_check_commands.specs.PlanFiles.{IsUnopened}
 use Rattle.bx_check_commands.specs.declared.fault.CommandFault.{CommandFault}
 use Rattle.bx_check_commands.specs.declared.fault.CommandFault.TheVariants as commands
 use Rattle.bx_day.specs.Day.{Day}
+use Rattle.bx_day.specs.declared.outcome.GivenUp.{GivenUp}
+use Rattle.bx_sales.specs.GivenUps.{none_given_up, noted_by}
 use Rattle.bx_day_openings.specs.declared.fault.DayCommandFault.{DayCommandFault}
 use Rattle.bx_day_openings.specs.declared.fault.DayCommandFault.TheVariants as faults
 use Rattle.bx_day_openings.specs.Followed.{IsFollowedWhole}
 use Rattle.bx_day_openings.specs.JournalRefusals.{IsNoJournalText, IsNoJournal}
-use Rattle.bx_day_openings.specs.Replays.{IsDayThrough, IsReadSoFar, HasBadAmendment, IsNoReplay, HasNoReplay}
+use Rattle.bx_day_openings.specs.Replays.{IsDayThrough, IsDayNoted, IsReadSoFar, HasBadAmendment, IsNoReplay, HasNoReplay}
 use Rattle.bx_events.specs.Events.{LiveEvent, Amended}
 use Rattle.bx_events.specs.declared.amendment.Amendment.{Amendment}
 use Rattle.bx_journal.specs.Follows.{WasRefused, IsFollowed}
@@ -104,9 +106,22 @@ goes_on channels wanted before opened at day r v is same followed =
     let f = subst (λ (x : Result (Unit {0}) DayCommandFault). OnOk x (IsFollowedWhole (day_goes channels) wanted before opened at)) is followed in
     record { events = f.events; journal = f.journal; through = subst (λ (d : Day). day_goes channels opened f.events d) (sym same) f.all }
 
+-- and what was noted of the same events
+pub noted_through : (channels : List Bool) (wanted : Wanted) (before : Option (List ℕ)) (opened day : Day) (given_up : List (Option GivenUp)) (f g : Selling) (r : Result (Unit {0}) DayCommandFault) (v : Unit {0}) → r ≡ Ok v
+    → f.channels ≡ channels → f.exchange ≡ opened → f.fault ≡ None → f.given_up.items ≡ none_given_up → g.fault ≡ None → day ≡ g.exchange → given_up ≡ g.given_up.items → OnOk r (IsFollowedWhole IsAfter wanted before f g) → IsDayNoted channels wanted before opened day given_up
+noted_through channels wanted before opened day given_up f g r v is on_channels opens fresh none whole same list followed =
+    let h = subst (λ (x : Result (Unit {0}) DayCommandFault). OnOk x (IsFollowedWhole IsAfter wanted before f g)) is followed in
+    record {
+      events = h.events;
+      journal = h.journal;
+      through = subst (λ (d : Day). day_goes channels opened h.events d) (sym same) (went channels opened f g on_channels opens fresh h.events h.all whole);
+      noted = list ∙ h.all.3 whole ∙ ap (λ (l : List (Option GivenUp)). noted_by l h.events) none;
+    }
+
 -- a fault of the journal's text
 pub no_replay : (name : List ℕ) (wanted : Wanted) (channels : List Bool) (opened : Day) (before after : Option (List ℕ)) (faulted : Bool) (fault : DayCommandFault) → IsNoJournal name wanted before after faulted fault → IsNoReplay name wanted channels opened before after faulted fault
 no_replay name wanted channels opened before after faulted (faults.Amendment why) none = absurd none
+no_replay name wanted channels opened before after faulted (faults.Command commands.Memory) none = absurd none
 no_replay name wanted channels opened before after faulted fault none = none
 
 pub if_ok : {A E : Type 0} (P Q : A → Type 0) (r : Result A E) → ((a : A) → P a → Q a) → IfOk r P → IfOk r Q
@@ -132,8 +147,10 @@ of_file name wanted channels opened before after faulted (faults.Journal OtherPl
 of_file name wanted channels opened before after faulted (faults.Journal OtherDay) none = untold wanted before OtherDay none
 of_file name wanted channels opened before after faulted (faults.Journal OtherRules) none = untold wanted before OtherRules none
 of_file name wanted channels opened before after faulted (faults.Command (commands.CannotRead n)) (same, cut) = same
+of_file name wanted channels opened before after faulted (faults.Command commands.Memory) none = tt
 of_file name wanted channels opened before after faulted fault none = absurd none
 
 pub unopened : (name : List ℕ) (wanted : Wanted) (channels : List Bool) (opened : Day) (fault : CommandFault) → IsUnopened name fault → HasNoReplay name wanted channels opened (faults.Command fault)
 unopened name wanted channels opened (commands.CannotRead n) same = same
+unopened name wanted channels opened commands.Memory none = tt
 unopened name wanted channels opened fault none = absurd none

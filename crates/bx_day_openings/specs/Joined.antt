@@ -4,10 +4,13 @@ use Rattle.std.proofs.Common.{refl, sym, ap, ◌∙◌, subst, append_assoc, app
 use Rattle.bx_day.specs.Day.{Day}
 use Rattle.bx_events.specs.Events.{LiveEvent, OnLink, WithoutLink, Amended, HeardByRulesTwo}
 use Rattle.bx_events.specs.declared.amendment.Amendment.{Amendment}
-use Rattle.bx_events.specs.declared.amendment.Amendment.TheVariants.{Sold, Cancelled, Changed}
+use Rattle.bx_events.specs.declared.amendment.Amendment.TheVariants.{Sold, Cancelled, Changed, SoldByRulesTwo, Delayed, Dropped, Out}
 use Rattle.bx_sales.specs.declared.tag.Tag.{Tag}
 use Rattle.bx_planfile.specs.OneBooking.{row_on}
 use Rattle.bx_sales.proofs.Journal.{through_more}
+use Rattle.bx_sales.proofs.Noting.{noted_on}
+use Rattle.bx_sales.specs.GivenUps.{noted_by}
+use Rattle.bx_day.specs.declared.outcome.GivenUp.{GivenUp}
 use Rattle.bx_day_openings.specs.declared.amending.AmendmentFault.{AmendmentFault}
 use Rattle.bx_day_openings.specs.declared.selling.Selling.{Selling}
 use Rattle.bx_day_openings.specs.Going.{IsStopped, Goes, GoesFrom}
@@ -44,12 +47,16 @@ module _ {S : Type 0} (goes : S → List LiveEvent → S → Type 0) (day : S �
       then_stopped (on, again) = (on ∙ same, again)
 
 pub after_nothing : (a : Selling) → IsAfter a [] a
-after_nothing a = (refl, goes_nothing (day_goes a.channels) (λ (d : Day). d) a.channels (λ d. refl) a.fault a.exchange, λ whole. sym (append-nil a.tags.items))
+after_nothing a = (refl, goes_nothing (day_goes a.channels) (λ (d : Day). d) a.channels (λ d. refl) a.fault a.exchange, λ whole. sym (append-nil a.tags.items), λ whole. refl)
 
 tagged_more : (kind : Amendment) (line : List ℕ) (xs ys : List (Option Tag)) → tagged_by kind line (xs ++ ys) ≡ tagged_by kind line xs ++ ys
 tagged_more Sold line xs ys = refl
 tagged_more Cancelled line xs ys = refl
 tagged_more Changed line xs ys = refl
+tagged_more SoldByRulesTwo line xs ys = refl
+tagged_more Delayed line xs ys = refl
+tagged_more Dropped line xs ys = refl
+tagged_more Out line xs ys = refl
 
 tags_more : (xs ys : List LiveEvent) → tags_in (xs ++ ys) ≡ tags_in xs ++ tags_in ys
 tags_more [] ys = refl
@@ -59,15 +66,21 @@ tags_more (WithoutLink rules ∷ xs) ys = tags_more xs ys
 tags_more (HeardByRulesTwo octets ∷ xs) ys = tags_more xs ys
 
 -- where all was right at the end, it was before
-was_right : (b c : Option AmendmentFault) (goes : Day → List LiveEvent → Day → Type 0) (channels : List Bool) (d e : Day) (events : List LiveEvent) → GoesFrom goes (λ (x : Day). x) channels b d events e c → c ≡ None → b ≡ None
-was_right None c goes channels d e events on whole = refl
-was_right (Some fault) c goes channels d e events (same, still) whole = let e = sym still ∙ whole in cc
+pub was_right : {S : Type 0} (goes : S → List LiveEvent → S → Type 0) (day : S → Day) (channels : List Bool) (s t : S) (events : List LiveEvent) (b c : Option AmendmentFault) → GoesFrom goes day channels b s events t c → c ≡ None → b ≡ None
+was_right goes day channels s t events None c on whole = refl
+was_right goes day channels s t events (Some fault) c (same, still) whole = let e = sym still ∙ whole in cc
+
+-- what was noted of some events, and then of more
+pub noted_after : (a b c : List (Option GivenUp)) (xs ys : List LiveEvent) → b ≡ noted_by a xs → c ≡ noted_by b ys → c ≡ noted_by a (xs ++ ys)
+noted_after a b c xs ys p q = q ∙ ap (λ (given_up : List (Option GivenUp)). noted_by given_up ys) p ∙ sym (noted_on a xs ys)
 
 pub after_more : (a b c : Selling) (xs ys : List LiveEvent) → IsAfter a xs b → IsAfter b ys c → IsAfter a (xs ++ ys) c
-after_more a b c xs ys (same, p, tags) (again, q, tags') =
-    let on = subst (λ (cs : List Bool). GoesFrom (day_goes cs) (λ (d : Day). d) cs b.fault b.exchange ys c.exchange c.fault) same q in (
+after_more a b c xs ys (same, p, tags, notes) (again, q, tags', notes') =
+    let on = subst (λ (cs : List Bool). GoesFrom (day_goes cs) (λ (d : Day). d) cs b.fault b.exchange ys c.exchange c.fault) same q in
+    let right = λ (whole : c.fault ≡ None). was_right (day_goes b.channels) (λ (d : Day). d) b.channels b.exchange c.exchange ys b.fault c.fault q whole in (
       again ∙ same,
       goes_more (day_goes a.channels) (λ (d : Day). d) a.channels (λ d e f us vs p q. through_more a.channels row_on us vs d e f p q) a.exchange b.exchange c.exchange xs ys a.fault b.fault c.fault p on,
-      λ whole. tags' whole ∙ ap (λ (ts : List (Option Tag)). ts ++ tags_in ys) (tags (was_right b.fault c.fault (day_goes b.channels) b.channels b.exchange c.exchange ys q whole))
+      λ whole. tags' whole ∙ ap (λ (ts : List (Option Tag)). ts ++ tags_in ys) (tags (right whole))
           ∙ append_assoc a.tags.items (tags_in xs) (tags_in ys) ∙ ap (λ (ts : List (Option Tag)). a.tags.items ++ ts) (sym (tags_more xs ys)),
+      λ whole. noted_after a.given_up.items b.given_up.items c.given_up.items xs ys (notes (right whole)) (notes' whole),
     )

@@ -10,6 +10,7 @@ pub mod Tied
 pub mod TiedDays
 pub mod Answers
 pub mod Journals
+pub mod Meetings
 pub mod JournalRefusals
 pub mod Followed
 pub mod Replays
@@ -17,3 +18,4 @@ pub mod Amendments
 pub mod Going
 pub mod Selling
 pub mod Joined
+pub mod Laws

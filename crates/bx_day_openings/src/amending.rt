@@ -8,12 +8,13 @@ ghost use Rattle.bx_sales.specs.Selling.{IsSold};
 ghost use Rattle.bx_sales.specs.Tags.{row_behind};
 ghost use Rattle.bx_day_openings.specs.Amendments.{IsNoSale, IsBadSale, IsNoCancellation, IsBadCancellation, IsNoRowChange, IsBadRowChange, IsBadAmendment};
 
+use crate::leaving::{delay_by, give_up_by, leave_by};
 use bx_base::{Booking, ChannelSet};
 use bx_day::Exchange;
 use bx_events::Amendment;
 use bx_journal::{number_on, space_at};
 use bx_planfile::booking_on;
-use bx_sales::{NoChange, NoSale, behind_tag, cancel, change, sell};
+use bx_sales::{NoChange, NoSale, behind_tag, cancel, change, channels_left, sell};
 use std::alloc::Global;
 use thiserror::Error;
 
@@ -32,15 +33,18 @@ pub enum AmendmentFault {
     /// At some moment more would have been promised than there are channels.
     #[error("J12 NotCarried")]
     NotCarried,
-    /// The plan is not first fit, and a booking that had started would have got another channel.
-    #[error("J13 OtherChannels")]
-    OtherChannels,
+    /// The day took over from another, and a booking that is sold has no reference of its own there.
+    #[error("J13 TookOver")]
+    TookOver,
     /// The day had no booking of its row that was promised.
     #[error("J14 NoBooking")]
     NoBooking,
     /// By then the booking of its row could not be given up any more, or not become this one.
     #[error("J15 LateChange")]
     LateChange,
+    /// The channel that was left by then is none of the plan, or was not in maintenance.
+    #[error("J16 BadChannel")]
+    BadChannel,
     /// Memory ran out.
     #[error("Memory")]
     Memory,
@@ -62,7 +66,7 @@ fn sell_again(
         Err(NoSale::Late) => Err(AmendmentFault::LateSale),
         Err(NoSale::Full) => Err(AmendmentFault::TooMany),
         Err(NoSale::NoChannel) => Err(AmendmentFault::NotCarried),
-        Err(NoSale::OtherChannels) => Err(AmendmentFault::OtherChannels),
+        Err(NoSale::TookOver) => Err(AmendmentFault::TookOver),
         Err(NoSale::Memory) => Err(AmendmentFault::Memory),
     }
 }
@@ -85,7 +89,7 @@ fn sell_by(
 }
 
 /// The row of this number, where the day has so many bookings.
-fn row_of(exchange: &Exchange, number: u32) -> Option<u16>
+pub(crate) fn row_of(exchange: &Exchange, number: u32) -> Option<u16>
     ensures row { IfSome result (λ row. row ≡ number) }
     ensures beyond { IfNone result (length exchange.now.entries < number) }
 {
@@ -114,7 +118,6 @@ fn cancel_again(
         Err(NoChange::NoBooking) => Err(AmendmentFault::NoBooking),
         Err(NoChange::Late) => Err(AmendmentFault::LateChange),
         Err(NoChange::NoChannel) => Err(AmendmentFault::NotCarried),
-        Err(NoChange::OtherChannels) => Err(AmendmentFault::OtherChannels),
         Err(NoChange::Memory) => Err(AmendmentFault::Memory),
     }
 }
@@ -156,13 +159,12 @@ fn change_again(
         Err(NoChange::NoBooking) => Err(AmendmentFault::NoBooking),
         Err(NoChange::Late) => Err(AmendmentFault::LateChange),
         Err(NoChange::NoChannel) => Err(AmendmentFault::NotCarried),
-        Err(NoChange::OtherChannels) => Err(AmendmentFault::OtherChannels),
         Err(NoChange::Memory) => Err(AmendmentFault::Memory),
     }
 }
 
 /// What a line has behind the octet at this place.
-fn behind(line: &[u8], at: usize) -> &[u8]
+pub(crate) fn behind(line: &[u8], at: usize) -> &[u8]
     ensures { result.now ≡ drop (at + 1) line.now }
 {
     if at < line.len() {
@@ -196,9 +198,9 @@ fn change_by(
     change_again(alloc, exchange, channels, row, booking)
 }
 
-/// Does again what a line of a journal says became of a booking, where its day stands now: sells it, gives it up, or makes another one of it. `BadSale`,
-/// which is tested first, where the line tells no booking, or names no row by a number; else the fault of the sale or the change, which changes
-/// nothing.
+/// Does again what a line of a journal says became of a booking or a channel, where its day stands now: sells it, gives it up, makes another one of it, or
+/// leaves it. `BadSale`, which is tested first, where the line tells no booking, or names no row or channel by a number; else the fault of the sale or the
+/// change, which changes nothing.
 pub fn amend_again(
     alloc: Global,
     exchange: &mut Exchange,
@@ -210,9 +212,14 @@ pub fn amend_again(
     ensures kept { OnErr result (exchange.new ≡ exchange.old) }
     ensures refused { IfErr result (IsBadAmendment channels kind line.now exchange.old) }
 {
+    let left = channels_left(exchange, channels);
     match kind {
-        Amendment::Sold => sell_by(alloc, exchange, channels, line),
-        Amendment::Cancelled => cancel_by(alloc, exchange, channels, line),
-        Amendment::Changed => change_by(alloc, exchange, channels, line),
+        Amendment::Sold => sell_by(alloc, exchange, left, line),
+        Amendment::Cancelled => cancel_by(alloc, exchange, left, line),
+        Amendment::Changed => change_by(alloc, exchange, left, line),
+        Amendment::SoldByRulesTwo => sell_by(alloc, exchange, channels, line),
+        Amendment::Delayed => delay_by(alloc, exchange, line),
+        Amendment::Dropped => give_up_by(alloc, exchange, line),
+        Amendment::Out => leave_by(alloc, exchange, channels, line),
     }
 }

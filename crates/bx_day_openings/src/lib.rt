@@ -6,13 +6,18 @@
 mod amending;
 mod capturing;
 mod causes;
+mod datagrams;
 mod fault;
 mod following;
 mod hours;
+pub mod laws;
+mod leaving;
 mod line;
 mod loopback;
 mod openings;
+mod paths;
 mod plan_opening;
+mod ports;
 mod progress;
 mod recording;
 mod replaying;
@@ -24,13 +29,16 @@ mod tied;
 pub use amending::{AmendmentFault, amend_again};
 pub use capturing::{captured, file_of, first_of};
 pub use causes::unheard;
+pub use datagrams::Datagrams;
 pub use fault::DayCommandFault;
 pub use following::journal_read;
 pub use hours::{Hours, hours_of};
 pub use line::line_between;
 pub use loopback::{accepted, connected, connected_ends};
 pub use openings::{AFTER_THE_LAST, far_end_of, turns_of};
+pub use paths::Paths;
 pub use plan_opening::{DayOpening, Opening, day_opening, opening_of, tied_opening};
+pub use ports::Ports;
 pub use progress::Shown;
 pub use recording::{
     RecordsFile, clock_of, kept, record, records_clock_of, records_file_of, unrecorded,

@@ -9,7 +9,7 @@ use Rattle.bx_day_openings.specs.declared.amending.AmendmentFault.TheVariants.{M
 use Rattle.bx_journal.specs.declared.fault.JournalFault.{JournalFault}
 use Rattle.bx_journal.specs.declared.fault.JournalFault.TheVariants.{NotBegun, ReadFailed}
 use Rattle.bx_journal_files.specs.declared.fault.LiveFault.{LiveFault}
-use Rattle.bx_journal_files.specs.declared.fault.LiveFault.TheVariants.{Day as OfDay, NotFirstFit, NotAFile, StillUp}
+use Rattle.bx_journal_files.specs.declared.fault.LiveFault.TheVariants.{Day as OfDay, NotAFile, StillUp}
 
 -- the file holds no plan, or none that is proved
 abbrev pub does_command_last : CommandFault → Bool
@@ -37,10 +37,9 @@ does_opening_last (Journal fault) = does_journal_last fault
 does_opening_last (Amendment fault) = does_amendment_last fault
 does_opening_last _ = false
 
--- or the plan cannot be sold on, the journal is no file, or the day has no more seconds
+-- or the journal is no file, or the day has no more seconds
 abbrev pub does_last : LiveFault → Bool
 does_last (OfDay fault) = does_opening_last fault
-does_last NotFirstFit = true
 does_last (NotAFile name) = true
 does_last StillUp = true
 does_last _ = false

@@ -1,4 +1,5 @@
 pub mod OpeningFaults
+pub mod Folders
 pub mod JournalDisks
 pub mod Lasting
 pub mod NewJournals

@@ -8,13 +8,18 @@ use Rattle.bx_journal.specs.declared.file.FileDisk.{FileDisk}
 use Rattle.bx_live.specs.declared.log.Log.{Log}
 use Rattle.bx_day_openings.specs.Selling.{day_goes, tags_go}
 use Rattle.bx_sales.specs.declared.tag.Tag.{Tag}
+use Rattle.bx_journal_files.specs.Folders.{folder_of}
 use Rattle.bx_journal_files.specs.Readying.{IsReady}
-use Rattle.bx_day_openings.specs.Replays.{IsDayThrough, HasNoReplay}
+use Rattle.bx_day_openings.specs.Replays.{IsDayThrough, IsDayNoted, HasNoReplay}
+use Rattle.bx_day_openings.specs.declared.fault.DayCommandFault.TheVariants.{Command}
+use Rattle.bx_check_commands.specs.declared.fault.CommandFault.TheVariants.{Memory}
+use Rattle.bx_day.specs.declared.outcome.GivenUp.{GivenUp}
+use Rattle.bx_sales.specs.GivenUps.{none_given_up}
 use Rattle.bx_journal.specs.Heads.{wanted_of}
 use Rattle.bx_journal.specs.declared.head.Head.{Head}
 use Rattle.bx_day.specs.Day.{Day}
 use Rattle.bx_journal_files.specs.declared.fault.LiveFault.{LiveFault}
-use Rattle.bx_journal_files.specs.declared.fault.LiveFault.TheVariants.{Day as OfDay, NotFirstFit, CannotRecord, NotEmpty, InUse, NotAFile, StillUp}
+use Rattle.bx_journal_files.specs.declared.fault.LiveFault.TheVariants.{Day as OfDay, CannotRecord, NotEmpty, InUse, NotAFile, StillUp}
 
 -- the day after just the events and sales of a journal that was read
 abbrev pub GoesOn : Head → List Bool → Option (List ℕ) → Day → Day → Type 0
@@ -44,6 +49,12 @@ abbrev pub GoesOnBy : Head → List Bool → Option (Bor (List ℕ)) → Day →
 GoesOnBy head channels None opened day = day ≡ opened
 GoesOnBy head channels (Some name) opened day = GoesOn head channels None opened day
 
+-- the system has said of a file that it has opened by the journal's name that no other program writes it, and was asked to bring its entry in
+-- the folder of the name to the disk
+abbrev pub IsTakenBy : {F : Type 0} → (List ℕ → F → Type 0) → (F → Type 0) → (List ℕ → F → Type 0) → Option (Bor (List ℕ)) → Type 0
+IsTakenBy opens locked entered None = Unit {0}
+IsTakenBy {F = F} opens locked entered (Some name) = (file : F) × opens name.now file × locked file × entered (folder_of name.now) file
+
 -- of each sale in a journal that was read, or was not begun, under which key it was asked for, or none
 abbrev pub IsTaggedOn : Head → Option (List ℕ) → List (Option Tag) → Type 0
 IsTaggedOn head before tags = (faulted : Bool) × (after : Option (List ℕ)) × (whole : Result ℕ JournalFault) × IsFollowed tags_go faulted before after (wanted_of head) [] tags whole
@@ -53,6 +64,15 @@ abbrev pub IsTaggedBy : Head → Option (Bor (List ℕ)) → List (Option Tag) �
 IsTaggedBy head None tags = tags ≡ []
 IsTaggedBy head (Some name) tags = IsTaggedOn head None tags
 
+-- how bookings were given up by a journal that was read, or was not begun: what was noted of just the events that happened to the day
+abbrev pub IsNotedOn : Head → List Bool → Option (List ℕ) → Day → Day → List (Option GivenUp) → Type 0
+IsNotedOn head channels before opened day given_up = IsDayNoted channels (wanted_of head) before opened day given_up
+
+-- the same of the journal in a file; without one the day stands at its opening, and nothing was given up
+abbrev pub IsNotedBy : Head → List Bool → Option (Bor (List ℕ)) → Day → Day → List (Option GivenUp) → Type 0
+IsNotedBy head channels None opened day given_up = (day ≡ opened) × (given_up ≡ none_given_up)
+IsNotedBy head channels (Some name) opened day given_up = IsNotedOn head channels None opened day given_up
+
 -- the journal of this name is not followed to its end, or can't be made ready
 abbrev pub IsNotResumed : List ℕ → Head → List Bool → Day → LiveFault → Type 0
 IsNotResumed name head channels opened (OfDay fault) = HasNoReplay name (wanted_of head) channels opened fault
@@ -61,10 +81,10 @@ IsNotResumed name head channels opened (NotEmpty n) = ⊥
 IsNotResumed name head channels opened (InUse n) = ⊥
 IsNotResumed name head channels opened (NotAFile n) = ⊥
 IsNotResumed name head channels opened StillUp = ⊥
-IsNotResumed name head channels opened NotFirstFit = ⊥
 
--- or it is no plain file, or another program writes it
+-- or it is no plain file, or another program writes it; without one memory ran out
 abbrev pub IsNoLog : Option (Bor (List ℕ)) → Head → List Bool → Day → LiveFault → Type 0
+IsNoLog None head channels opened (OfDay (Command Memory)) = Unit {0}
 IsNoLog None head channels opened fault = ⊥
 IsNoLog (Some name) head channels opened (InUse n) = n.now ≡ name.now
 IsNoLog (Some name) head channels opened (NotAFile n) = n.now ≡ name.now

@@ -15,9 +15,6 @@ pub enum LiveFault<'a> {
     /// What is needed was not opened, or the day was not told.
     #[error(transparent)]
     Day(DayCommandFault<'a>),
-    /// The plan of a live day is not first fit: a booking that is sold might take the channel of a call that is up.
-    #[error("D1 NotFirstFit")]
-    NotFirstFit,
     /// The journal of this name, which is to be a new one, is there and not empty.
     #[error("J3 NotEmpty {0}")]
     NotEmpty(&'a str),
@@ -36,15 +33,15 @@ pub enum LiveFault<'a> {
 }
 
 impl<'a> LiveFault<'a> {
-    /// Whether a start again, with the same words, cannot mend it: the words name no day, the plan is none, is not proved or cannot be
-    /// sold on, the journal is no file or none of this plan, this day and these rules, or the day has no more seconds. Whoever starts
+    /// Whether a start again, with the same words, cannot mend it: the words name no day, the plan is none or is not proved,
+    /// the journal is no file or none of this plan, this day and these rules, or the day has no more seconds. Whoever starts
     /// the exchange again and again need not do so.
     pub fn does_last(self) -> bool
         ensures { result ≡ does_last self.entry }
     {
         match self {
             LiveFault::Day(fault) => does_opening_last(fault),
-            LiveFault::NotFirstFit | LiveFault::NotAFile(_) | LiveFault::StillUp => true,
+            LiveFault::NotAFile(_) | LiveFault::StillUp => true,
             LiveFault::NotEmpty(_) | LiveFault::InUse(_) | LiveFault::CannotRecord(_) => false,
         }
     }

@@ -1,20 +1,24 @@
 //! The folder in which a journal stands.
 
-use std::fs::{File, Files, OpenFile};
+ghost use Rattle.std.specs.Prelude.{◌≡◌};
+ghost use Rattle.bx_journal_files.specs.Folders.{folder_of};
+
+use crate::file_stats::FileStats;
+use std::path::Path;
 
 /// The folder of the file of this name.
-fn folder_of(name: &str) -> &str {
-    match name.rsplit_once('/') {
-        Some((folder, _)) if folder.is_empty() => "/",
-        Some((folder, _)) => folder,
-        None => ".",
+fn folder_of(name: &str) -> &str
+    ensures { result.now ≡ folder_of name.now }
+{
+    match Path::new(name).parent() {
+        Some(folder) if !folder.as_os_str().is_empty() => folder.as_os_str(),
+        _ => ".",
     }
 }
 
-/// Brings the entry of a file in its folder to the disk, since a file that a crash leaves without a name is lost. A folder that cannot
-/// be opened to read, or that its system cannot sync, is let be: some have no such thing.
-pub fn sync_entry<H: Files>(rt: &H, name: &str) {
-    if let Ok(folder) = File::open(rt, folder_of(name)) {
-        let _ = folder.sync_all();
-    }
+/// Brings the entry of an open file of this name in its folder to the disk, since a file that a crash leaves without a name is lost.
+pub fn sync_entry<H: FileStats>(rt: &H, name: &str, file: &H::File)
+    ensures { H.entered rt.now (folder_of name.now) file.now }
+{
+    rt.sync_folder(folder_of(name), file);
 }

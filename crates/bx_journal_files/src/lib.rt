@@ -9,6 +9,7 @@ mod locks;
 mod named_file;
 mod resuming;
 mod starting;
+mod synced_file;
 
 pub use fault::{LiveFault, unlogged};
 pub use file_stats::{FileStat, FileStats};
@@ -17,3 +18,4 @@ pub use locks::Locks;
 pub use named_file::NamedFile;
 pub use resuming::{Resumed, resume_named, resume_on};
 pub use starting::{JournalDisk, new_journal};
+pub use synced_file::{SyncedFile, Syncs};

@@ -1,7 +1,8 @@
 //! A journal that is to be new.
 
-ghost use Rattle.std.specs.Prelude.{◌≡◌, is_some, true, Ok, OnOk, IfOk, IfErr};
-ghost use Rattle.bx_journal_files.specs.NewJournals.{HasNoNewJournal, IsEmptyFile};
+ghost use Rattle.std.specs.Prelude.{◌≡◌, is_some, Ok, OnOk, IfOk, IfErr};
+ghost use Rattle.bx_journal_files.specs.JournalDisks.{file_under};
+ghost use Rattle.bx_journal_files.specs.NewJournals.{HasNoNewJournal, IsOnNewFile};
 ghost use Rattle.bx_journal_files.specs.NewJournalsInside.{IsNotNew, IsNoNewJournal};
 
 use crate::fault::LiveFault;
@@ -9,16 +10,17 @@ use crate::file_stats::FileStats;
 use crate::folder::sync_entry;
 use crate::locks::Locks;
 use crate::resuming::{journal_file, length_of};
+use crate::synced_file::SyncedFile;
 use bx_check_commands::CommandFault;
 use bx_day_openings::DayCommandFault;
-use bx_journal::{FileDisk, SystemFile};
+use bx_journal::FileDisk;
 use std::alloc::Global;
 use std::fs::{Files, OpenFile};
 use std::io;
 use std::io::{BufWriter, Write};
 
 /// The disk of the journal of a rehearsal: what is written waits in a buffer.
-pub type JournalDisk<F> = FileDisk<BufWriter<SystemFile<F>>>;
+pub type JournalDisk<F> = FileDisk<BufWriter<SyncedFile<F>>>;
 
 /// Whether a file of this length holds nothing yet.
 fn judged<'a>(name: &'a str, length: io::Result<u64>) -> Result<(), LiveFault<'a>>
@@ -39,11 +41,12 @@ fn journal_in<'a, F: Write + OpenFile + Drop>(
     file: F,
     length: io::Result<u64>,
 ) -> Result<JournalDisk<F>, LiveFault<'a>>
+    ensures inside { IfOk result (λ disk. file_under disk ≡ file) }
     ensures new { IfOk result (λ disk. length ≡ Ok 0) }
     ensures refused { IfErr result (IsNoNewJournal name.now length) }
 {
     judged(name, length)?;
-    match BufWriter::new(alloc, SystemFile::new(file)) {
+    match BufWriter::new(alloc, SyncedFile::new(file)) {
         Ok(file) => Ok(FileDisk::new(file)),
         Err(_) => Err(LiveFault::Day(DayCommandFault::Command(CommandFault::Memory))),
     }
@@ -58,7 +61,7 @@ pub fn new_journal<'a, H: Files + Locks + FileStats + Eprint>(
     name: Option<&'a str>,
 ) -> Result<Option<JournalDisk<H::File>>, LiveFault<'a>>
     ensures named { IfOk result (λ disk. is_some disk ≡ is_some name.entry) }
-    ensures new { IfOk result (λ disk. is_some disk ≡ true → IsEmptyFile (H.locked rt.now) (H.lies rt.now)) }
+    ensures new { IfOk result (IsOnNewFile (H.appends_to rt.now) (H.locked rt.now) (H.lies rt.now) (H.entered rt.now) name.entry) }
     ensures refused { IfErr result (HasNoNewJournal name.entry) }
 {
     let Some(name) = name else {
@@ -66,7 +69,7 @@ pub fn new_journal<'a, H: Files + Locks + FileStats + Eprint>(
     };
     let file = journal_file(rt, name)?;
     let length = length_of(rt, &file);
+    sync_entry(rt, name, &file);
     let disk = journal_in(alloc, name, file, length)?;
-    sync_entry(rt, name);
     Ok(Some(disk))
 }

@@ -1,5 +1,5 @@
 -- What is told of a day that is rehearsed.
-use Rattle.std.specs.Prelude.{◌≡◌, ℕ, Bool, is_some, List, Option, None, Result, true, Ok}
+use Rattle.std.specs.Prelude.{◌≡◌, ℕ, Bool, is_some, List, [], Option, None, Result, true, Ok}
 use Rattle.std.specs.Borrow.{Bor}
 use Rattle.std.specs.Io.KnownBytes.{Appends}
 use Rattle.std.specs.declared.net.TcpStream.{TcpStream}
@@ -90,7 +90,7 @@ pub record IsRehearsedDay {F : Type 0} (files : F → Option (List ℕ)) (reques
 pub record IsRehearsalTold {F : Type 0} (files : F → Option (List ℕ)) (request : RehearsalRequest) (before after : Option (List ℕ)) (is_whole : Bool) (recorded : Result (Unit {0}) DayCommandFault) : Type 0 where
   pub day : Day
   pub ran : IsRehearsedDay files request day is_whole
-  pub written : Appends before after (outcomes_text day)
+  pub written : Appends before after (outcomes_text [] day)
   pub records : AreRecorded files request.records day.entries recorded
 
 -- or a prefix of it was, and all the same just the records of such a day were written, or there is a reason why not
@@ -98,7 +98,7 @@ pub record IsRehearsalCut {F : Type 0} (files : F → Option (List ℕ)) (reques
   pub day : Day
   pub is_whole : Bool
   pub ran : IsRehearsedDay files request day is_whole
-  pub written : AppendsPrefix before after (outcomes_text day)
+  pub written : AppendsPrefix before after (outcomes_text [] day)
   pub recorded : Result (Unit {0}) DayCommandFault
   pub records : AreRecorded files request.records day.entries recorded
 

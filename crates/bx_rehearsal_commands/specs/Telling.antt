@@ -1,5 +1,5 @@
 -- What was told of a day after its end.
-use Rattle.std.specs.Prelude.{◌≡◌, ℕ, true, List, Option, Result, Ok}
+use Rattle.std.specs.Prelude.{◌≡◌, ℕ, true, List, [], Option, Result, Ok}
 use Rattle.std.specs.Io.KnownBytes.{Appends}
 use Rattle.bx_check_commands.specs.declared.fault.CommandFault.TheVariants.{CannotWrite}
 use Rattle.bx_day.specs.Telling.{outcomes_text}
@@ -15,7 +15,7 @@ use Rattle.bx_rehearsal_commands.specs.declared.telling.Ended.{Ended}
 
 -- what became of each booking was written, and the records, or not
 pub record IsTold {F : Type 0} (files : F → Option (List ℕ)) (ended : Ended F) (output : Writing) (recorded : Result (Unit {0}) DayCommandFault) : Type 0 where
-  pub written : Appends output.before output.after (outcomes_text ended.exchange)
+  pub written : Appends output.before output.after (outcomes_text [] ended.exchange)
   pub records : IsRecording files ended.exchange.entries ended.records recorded
 
 -- and all that was to be captured and recorded was
@@ -26,7 +26,7 @@ pub record IsToldWhole {F : Type 0} (files : F → Option (List ℕ)) (capture :
 -- a prefix of what became of the bookings was written, and the records, or not
 pub record IsTellingCut {F : Type 0} (files : F → Option (List ℕ)) (ended : Ended F) (output : Writing) : Type 0 where
   pub faulted : output.is_faulted ≡ true
-  pub written : AppendsPrefix output.before output.after (outcomes_text ended.exchange)
+  pub written : AppendsPrefix output.before output.after (outcomes_text [] ended.exchange)
   pub recorded : Result (Unit {0}) DayCommandFault
   pub records : IsRecording files ended.exchange.entries ended.records recorded
 

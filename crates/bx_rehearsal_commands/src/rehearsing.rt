@@ -1,6 +1,6 @@
 //! A day that is opened, rehearsed: as fast as its peer goes.
 
-ghost use Rattle.std.specs.Prelude.{◌≡◌, ◌≤◌, true, is_some, IfOk, OnErr};
+ghost use Rattle.std.specs.Prelude.{◌≡◌, ◌≤◌, true, is_some, IfOk, IfSome, OnErr};
 ghost use Rattle.bx_capture.specs.declared.start.TheConstants.{LAST_START};
 ghost use Rattle.bx_rehearsal_commands.specs.RehearsalsInside.{IsPutAway};
 ghost use Rattle.bx_rehearsal_commands.specs.Rehearsals.{RehearsesTowards};
@@ -57,6 +57,7 @@ fn begun<D: Disk + Drop>(disk: Option<D>, head: &Head) -> Result<Log<WaitingDisk
 /// The disk of a journal, with all that is logged, where one was kept.
 fn put_away<D: Disk + Drop>(kept: Log<WaitingDisk<D>>) -> Result<Option<D>, CannotLog>
     ensures away { IfOk result (IsPutAway D.holds D.may_leave kept.disk) }
+    ensures synced { IfOk result (λ disk. IfSome disk D.has_synced) }
     ensures failed { OnErr result (is_some kept.disk ≡ true) }
 {
     let Some(waiting) = kept.disk else {
@@ -81,6 +82,8 @@ pub fn rehearse<'h, H: Clock + Eprint, P: Peer + Drop, D: Disk + Drop, F: Write 
     ensures failed { OnErr result (is_some opened.disk ≡ true) }
     ensures ran { IfOk result
         (RehearsesTowards P.wrote P.gave P.parted D.holds D.may_leave D.has_failed F.contents opened peer view.file view.first) }
+    // What the disk is written into has said that all of the journal outlasts a crash.
+    ensures synced { IfOk result (λ rehearsed. IfSome rehearsed.disk D.has_synced) }
 {
     let Opened {
         mut exchange,

@@ -38,7 +38,8 @@ pub fn tell<'a, F: Write + Drop, W: Write>(
         is_whole,
         records,
     } = ended;
-    let told = exchange.write_outcomes(output);
+    // A rehearsal has no log that gives a booking up.
+    let told = exchange.write_outcomes(&[], output);
     let recorded = record(alloc, &exchange, records);
     if told.is_err() {
         return Err(LiveFault::Day(DayCommandFault::Command(CommandFault::CannotWrite)));

@@ -25,7 +25,8 @@ impl<D: Disk> WaitingDisk<D> {
     pub fn put_away(self) -> Result<D, DiskFailed>
     where
         D: Drop,
-        ensures { IfOk result (λ disk. (text : List ℕ) → D.holds self.disk text → D.holds disk text × Only text (D.may_leave disk)) }
+        ensures kept { IfOk result (λ disk. (text : List ℕ) → D.holds self.disk text → D.holds disk text × Only text (D.may_leave disk)) }
+        ensures synced { IfOk result D.has_synced }
     {
         let WaitingDisk { mut disk } = self;
         disk.sync()?;

@@ -11,21 +11,21 @@ use Rattle.bx_audit.proofs.charting.seen_by.Goals as goal
 pub returns-in_err-exchange-clause-refused : goal.returns-in_err-exchange-clause-refused
 returns-in_err-exchange-clause-refused g c =
     let read = c.read_journal-whole in
-    let fresh = c.new in
-    let a : Charting = record { selling = fresh.result; noting = c.new-2.result } in
+    let fresh = c.in_ok-selling in
+    let a : Charting = record { selling = fresh.selling; noting = c.new-2.result } in
     let b = read.new.follower in
     let before = g.R.Read.remaining (device_of c.args.journal.now) in
     let after = g.R.Read.remaining (device_of read.new.device) in
     let fault = c.in_err-exchange.field-0.0 in
-    let p = err_from_is_err_and c.from_residual.result c.from_residual.ensures.1 in
+    let p = err_from_is_err_and c.from_residual-in_err-exchange.result c.from_residual-in_err-exchange.ensures.1 in
     rw (p.1, p.2)
     (bad_sale HasFollowed (is_faulted read.new.device) before after c.args.wanted.now a b c.args.channels c.args.exchange b.selling.exchange fault
-    (λ events h. stopped c.args.channels c.args.exchange fresh.result b.selling fresh.ensures.channels fresh.ensures.exchange fresh.ensures.fault events h.0 fault c.in_err-exchange.ensures.stopped) read.result read.ensures.read)
+    (λ events h. stopped c.args.channels c.args.exchange fresh.selling b.selling fresh.ensures.channels fresh.ensures.exchange fresh.ensures.fault events h.0 fault c.in_err-exchange.ensures.stopped) read.result read.ensures.read)
 
 pub returns-in_err-journal_read-clause-refused : goal.returns-in_err-journal_read-clause-refused
 returns-in_err-journal_read-clause-refused g c =
     let read = c.read_journal-whole in
-    let a : Charting = record { selling = c.new.result; noting = c.new-2.result } in
+    let a : Charting = record { selling = c.in_ok-selling.selling; noting = c.new-2.result } in
     let before = g.R.Read.remaining (device_of c.args.journal.now) in
     let after = g.R.Read.remaining (device_of read.new.device) in
     let fault = c.in_err-journal_read.field-0.0 in
@@ -37,10 +37,10 @@ returns-in_err-journal_read-clause-refused g c =
 pub returns-clause-through : goal.returns-clause-through
 returns-clause-through g c =
     let read = c.read_journal-whole in
-    let fresh = c.new in
+    let fresh = c.in_ok-selling in
     let channels = c.args.channels in
     let wanted = c.args.wanted.now in
-    let a : Charting = record { selling = fresh.result; noting = c.new-2.result } in
+    let a : Charting = record { selling = fresh.selling; noting = c.new-2.result } in
     let b = read.new.follower in
     let before = g.R.Read.remaining (device_of c.args.journal.now) in
     let after = g.R.Read.remaining (device_of read.new.device) in

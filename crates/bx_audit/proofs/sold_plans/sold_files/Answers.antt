@@ -1,14 +1,9 @@
 use Rattle.bx_audit.proofs.Handed.{on_ok, if_err, unwritten}
-use Rattle.bx_audit.proofs.SoldDays.{day_fits, day_room, last_of}
+use Rattle.bx_audit.proofs.SoldDays.{day_room, last_of}
 use Rattle.bx_audit.proofs.sold_plans.sold_files.Goals as goal
 
-pub write_last-requires-clause-fits : goal.write_last-requires-clause-fits
-write_last-requires-clause-fits g c =
-    let day = c.in_ok-day.day in
-    day_fits (g.I.Inputs.gives c.args.inputs.now) c.args.request.plan.now c.args.request.journal.now day.channels day.exchange c.in_ok-day.ensures.told
-
-pub write_last-requires-clause-room : goal.write_last-requires-clause-room
-write_last-requires-clause-room g c t many =
+pub write_last-requires : goal.write_last-requires
+write_last-requires g c t many =
     let day = c.in_ok-day.day in
     day_room (g.I.Inputs.gives c.args.inputs.now) c.args.request.plan.now c.args.request.journal.now day.channels day.exchange c.in_ok-day.ensures.told t many
 

@@ -1,4 +1,4 @@
-use Rattle.std.proofs.Common.{◌≡◌, List, ℕ, Bool, Option, Some, Result, Ok, Err, OnOk, None, refl, ap, ◌∙◌, subst}
+use Rattle.std.proofs.Common.{◌≡◌, List, [], ℕ, Bool, Option, Some, Result, Ok, Err, OnOk, None, refl, ap, ◌∙◌, subst}
 use Rattle.std.specs.Prelude.{IfErr}
 use Rattle.std.proofs.lemmas.Result.{err_from_is_err_and}
 use Rattle.bx_day_openings.specs.Followed.{IsFollowedWhole}
@@ -14,8 +14,11 @@ use Rattle.bx_day_openings.specs.JournalRefusals.{IsNoJournal}
 use Rattle.bx_day_openings.proofs.ToldJournals.{not_followed, followed_whole}
 use Rattle.bx_day_openings.proofs.Replays.{followed_as, bad_sale, no_replay}
 use Rattle.bx_day_openings.specs.declared.amending.AmendmentFault.{AmendmentFault}
+use Rattle.bx_capture.specs.Keeping.{keeps_nil}
 use Rattle.bx_audit.specs.Audits.{IsKeptSoFar}
-use Rattle.bx_audit.specs.Followed.{Taken, IsTaken, taken_of}
+use Rattle.bx_audit.specs.Followed.{Taken, IsTakenNoted, taken_of}
+use Rattle.bx_day.specs.declared.outcome.GivenUp.{GivenUp}
+use Rattle.bx_sales.specs.GivenUps.{none_given_up}
 use Rattle.bx_audit.proofs.Audited.{audited, kept_so_far, same_taken, followed_some, taken_whole, taken_to, stopped_day}
 use Rattle.bx_audit.proofs.telling.audited_day.Goals as goal
 
@@ -31,7 +34,7 @@ returns-in-Some-clause-refused g c =
     let opens : a ≡ taken_of o.exchange c.args.file.now c.args.first = same_taken first.end o.exchange first.file c.args.file.now first.first c.args.first c.new-captured.ensures.end (c.new-captured.ensures.file ∙ c.take.ensures.value) c.new-captured.ensures.first in
     subst (λ (w : Wanted). HasBadAmendment o.channels w before o.exchange c.in-Some.fault) c.of_any_day-wanted.ensures
     (bad_sale _ (is_faulted read.new.device) before (g.R.Read.remaining (device_of read.new.device)) c.of_any_day-wanted.result _ end o.channels o.exchange end.captured.end c.in-Some.fault
-    (λ events h. stopped_day g.W.Write.contents o.channels o.channels end.channels None end.fault a b c.args.first c.args.file.now o.exchange refl refl opens events h c.in-Some.fault c.in-Some.is) read.result read.ensures.read)
+    (λ events h. stopped_day g.W.Write.contents o.channels o.channels end.channels None end.fault a b c.args.first c.args.file.now o.exchange refl refl opens events h.0 c.in-Some.fault c.in-Some.is) read.result read.ensures.read)
 
 pub returns-in-Some-clause-kept : goal.returns-in-Some-clause-kept
 returns-in-Some-clause-kept g c =
@@ -44,7 +47,7 @@ returns-in-Some-clause-kept g c =
     let b = taken_of end.captured.end end.captured.file end.captured.first in
     let opens : a ≡ taken_of o.exchange c.args.file.now c.args.first = same_taken first.end o.exchange first.file c.args.file.now first.first c.args.first c.new-captured.ensures.end (c.new-captured.ensures.file ∙ c.take.ensures.value) c.new-captured.ensures.first in
     let some = followed_some _ (is_faulted read.new.device) before (g.R.Read.remaining (device_of read.new.device)) c.of_any_day-wanted.result _ end read.result read.ensures.read in
-    let stop = taken_to g.W.Write.contents o.channels o.channels end.channels None end.fault a b c.args.first c.args.file.now o.exchange refl refl opens some.0 some.1 c.in-Some.fault c.in-Some.is in
+    let stop = taken_to g.W.Write.contents o.channels o.channels end.channels None end.fault a b c.args.first c.args.file.now o.exchange refl refl opens some.0 some.1.0 c.in-Some.fault c.in-Some.is in
     kept_so_far g.W.Write.contents o.channels c.args.file.now c.args.first o.exchange stop.amendment.before b stop.went
 
 pub returns-in_err-journal_read-clause-refused : goal.returns-in_err-journal_read-clause-refused
@@ -54,7 +57,7 @@ returns-in_err-journal_read-clause-refused g c =
     let before = g.R.Read.remaining (device_of c.args.journal.now) in
     let after = g.R.Read.remaining (device_of read.new.device) in
     let fault = c.in_err-journal_read.field-0.0 in
-    let p = err_from_is_err_and c.from_residual.result c.from_residual.ensures.1 in
+    let p = err_from_is_err_and c.from_residual-in_err-journal_read.result c.from_residual-in_err-journal_read.ensures.1 in
     rw (p.1, p.2)
     (subst (λ (w : Wanted). IsNoReplay c.args.name.now w o.channels o.exchange before after (is_faulted read.new.device) fault) c.of_any_day-wanted.ensures
     (no_replay c.args.name.now c.of_any_day-wanted.result o.channels o.exchange before after (is_faulted read.new.device) fault
@@ -77,7 +80,7 @@ returns-in_err-journal_read-clause-any_day g c =
     let before = g.R.Read.remaining (device_of c.args.journal.now) in
     let after = g.R.Read.remaining (device_of read.new.device) in
     let fault = c.in_err-journal_read.field-0.0 in
-    let p = err_from_is_err_and c.from_residual.result c.from_residual.ensures.1 in
+    let p = err_from_is_err_and c.from_residual-in_err-journal_read.result c.from_residual-in_err-journal_read.ensures.1 in
     rw (p.1, p.2)
     (λ e. not_other c.args.name.now c.args.opening.digest c.of_any_day-wanted.result before after (is_faulted read.new.device) fault c.of_any_day-wanted.ensures
     (not_followed _ (is_faulted read.new.device) before after c.of_any_day-wanted.result _ read.new.follower c.args.name read.result (Err fault) c.in_err-journal_read.ensures read.ensures.read) (same_fault fault (Journal OtherDay) e))
@@ -102,9 +105,9 @@ returns-in_err-journal_read-clause-kept g c =
     let opens : a ≡ taken_of o.exchange c.args.file.now c.args.first = same_taken first.end o.exchange first.file c.args.file.now first.first c.args.first c.new-captured.ensures.end (c.new-captured.ensures.file ∙ c.take.ensures.value) c.new-captured.ensures.first in
     let whole : end.fault ≡ None = not_some end.fault c.in_default.not-Some in
     let some = followed_some _ (is_faulted read.new.device) before (g.R.Read.remaining (device_of read.new.device)) c.of_any_day-wanted.result _ end read.result read.ensures.read in
-    on_err (IsKeptSoFar g.W.Write.contents o.channels c.args.file.now b.file c.args.first o.exchange) c.from_residual.result
+    on_err (IsKeptSoFar g.W.Write.contents o.channels c.args.file.now b.file c.args.first o.exchange) c.from_residual-in_err-journal_read.result
     (kept_so_far g.W.Write.contents o.channels c.args.file.now c.args.first o.exchange some.0 b
-    (taken_whole g.W.Write.contents o.channels o.channels end.channels None end.fault a b c.args.first c.args.file.now o.exchange refl refl opens some.0 some.1 whole))
+    (taken_whole g.W.Write.contents o.channels o.channels end.channels None end.fault a b c.args.first c.args.file.now o.exchange refl refl opens some.0 some.1.0 whole))
 
 pub returns-clause-audited : goal.returns-clause-audited
 returns-clause-audited g c =
@@ -119,9 +122,18 @@ returns-clause-audited g c =
     let b = taken_of end.captured.end end.captured.file end.captured.first in
     let opens : a ≡ taken_of o.exchange c.args.file.now c.args.first = same_taken first.end o.exchange first.file c.args.file.now first.first c.args.first c.new-captured.ensures.end (c.new-captured.ensures.file ∙ c.take.ensures.value) c.new-captured.ensures.first in
     let whole : end.fault ≡ None = not_some end.fault c.in_default.not-Some in
-    let followed = followed_as _ (IsTaken contents o.channels) (λ x. taken_of x.captured.end x.captured.file x.captured.first) (is_faulted read.new.device) before after c.of_any_day-wanted.result _ end
-    (λ events h. taken_whole contents o.channels o.channels end.channels None end.fault a b first.first first.file first.end refl refl refl events h whole) read.result read.ensures.read in
-    let all = followed_whole (IsTaken contents o.channels) (is_faulted read.new.device) before after c.of_any_day-wanted.result a b c.args.name read.result c.journal_read.result c.journal_read.ensures followed in
-    audited contents o.digest o.channels before c.args.file.now c.args.first o.exchange b c.journal_read.result c.in_ok-journal_read.field-0 c.in_ok-journal_read.was
-    (subst (λ (w : Wanted). OnOk c.journal_read.result (IsFollowedWhole (IsTaken contents o.channels) w before (taken_of o.exchange c.args.file.now c.args.first) b)) c.of_any_day-wanted.ensures
-    (subst (λ (t : Taken _). OnOk c.journal_read.result (IsFollowedWhole (IsTaken contents o.channels) c.of_any_day-wanted.result before t b)) opens all))
+    let list = c.in_ok-given_up in
+    let followed = followed_as _ (IsTakenNoted contents o.channels) (λ x. (taken_of x.captured.end x.captured.file x.captured.first, x.given_up.items)) (is_faulted read.new.device) before after c.of_any_day-wanted.result _ end
+    (λ events h. (taken_whole contents o.channels o.channels end.channels None end.fault a b first.first first.file first.end refl refl refl events h.0 whole, h.1 whole)) read.result read.ensures.read in
+    let all = followed_whole (IsTakenNoted contents o.channels) (is_faulted read.new.device) before after c.of_any_day-wanted.result (a, list.given_up.items) (b, end.given_up.items) c.args.name read.result c.journal_read.result c.journal_read.ensures followed in
+    audited contents o.digest o.channels before c.args.file.now c.args.first o.exchange b end.given_up.items c.journal_read.result c.in_ok-journal_read.field-0 c.in_ok-journal_read.was
+    (subst (λ (w : Wanted). OnOk c.journal_read.result (IsFollowedWhole (IsTakenNoted contents o.channels) w before (taken_of o.exchange c.args.file.now c.args.first, none_given_up) (b, end.given_up.items))) c.of_any_day-wanted.ensures
+    (subst (λ (l : List (Option GivenUp)). OnOk c.journal_read.result (IsFollowedWhole (IsTakenNoted contents o.channels) c.of_any_day-wanted.result before (taken_of o.exchange c.args.file.now c.args.first, l) (b, end.given_up.items))) list.ensures
+    (subst (λ (t : Taken _). OnOk c.journal_read.result (IsFollowedWhole (IsTakenNoted contents o.channels) c.of_any_day-wanted.result before (t, list.given_up.items) (b, end.given_up.items))) opens all)))
+
+pub returns-in_err-given_up-clause-kept : goal.returns-in_err-given_up-clause-kept
+returns-in_err-given_up-clause-kept g c =
+    let o = c.args.opening in
+    let contents = g.W.Write.contents in
+    on_err (IsKeptSoFar contents o.channels c.args.file.now c.args.file.now c.args.first o.exchange) c.from_residual.result
+    (record { events = []; day = o.exchange; octets = []; through = (refl, refl); kept = keeps_nil contents c.args.file.now })
