@@ -1,5 +1,6 @@
 pub mod Cuts
 pub mod HeadFields
 pub mod Verdicts
+mod BodyReads
 pub mod Taken
 pub mod Sent

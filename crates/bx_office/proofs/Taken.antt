@@ -34,7 +34,7 @@ undue old new (Stages.Refused refusal) u = tt
 undue old new (Stages.Asked route) u = absurd u
 undue old new Stages.Last u = tt
 
-begun : (old new : Client) (spans : List HeaderSpan) (r : RequestSpans) (after : Server) (len : ℕ) (route : Route) → TakesHead old.server old.unread.items spans after len r → IsBegun old.place old.unread.items spans r route new → IsAdmitted old new route
+begun : (old new : Client) (spans : List HeaderSpan) (r : RequestSpans) (after : Server) (len : ℕ) (route : Route) → TakesHead old.server old.unread.items spans after len r → IsBegun old.place after old.unread.items spans r route new → IsAdmitted old new route
 begun old new spans r after len route t b = record {
   head = t.head;
   framing = t.framing;
@@ -42,14 +42,15 @@ begun old new spans r after len route t b = record {
   verdict = b.verdict t.head t.covered;
   query = b.query t.head t.covered;
   key = b.key t.head t.covered;
+  reads = b.reading ∙ ap (λ (server : Server). server.reading) t.next;
   body = b.body;
 }
 
 -- a head that was let through is answered, or its body is due. `taken` is the client after the head was taken
-pub body_begun : (spans : List HeaderSpan) (r : RequestSpans) (old taken new : Client) (route : Route) → IsHeadTaken spans r old taken (Ok route) → taken.unread.items ≡ drop r.len old.unread.items → IsUndue new.stage ⊎ IsBodyDue route taken new
+pub body_begun : (spans : List HeaderSpan) (r : RequestSpans) (old taken new : Client) (route : Route) → IsHeadTaken spans r old taken (Ok route) → taken.unread.items ≡ drop r.len old.unread.items → taken.server ≡ old.server → IsUndue new.stage ⊎ IsBodyDue route taken new
     → IsUndue new.stage ⊎ IsBodyBegun spans r old new
-body_begun spans r old taken new route is cut (inl u) = inl u
-body_begun spans r old taken new route is cut (inr due) = inr (
+body_begun spans r old taken new route is cut served (inl u) = inl u
+body_begun spans r old taken new route is cut served (inr due) = inr (
   route,
   due.0,
   record {
@@ -57,6 +58,7 @@ body_begun spans r old taken new route is cut (inr due) = inr (
     query = λ h at. let of = is h at in due.3 ∙ of.1;
     key = λ h at. let of = is h at in due.4 ∙ of.2;
     unread = due.2 ∙ cut;
+    reading = due.5 ∙ ap (λ (server : Server). server.reading) served;
     body = due.1;
   },
 )
@@ -67,5 +69,5 @@ pub head_taken : (old read new : Client) (spans : List HeaderSpan) (progress : P
 head_taken old read new spans progress r p e ep eu (inl u) = undue old new new.stage u
 head_taken old read new spans progress r p e ep eu (inr (route, at, b)) =
     let t : TakesHead old.server old.unread.items spans read.server progress.consumed r = took old.server.reading old.server read.server old.unread.items spans progress r p e in
-    let same : IsBegun old.place old.unread.items spans r route new = rw (sym ep, sym eu) b in
+    let same : IsBegun old.place read.server old.unread.items spans r route new = rw (sym ep, sym eu) b in
     subst (λ (s : Stage). IsDueAfter old new s) (sym at) (inl (begun old new spans r read.server progress.consumed route t same))

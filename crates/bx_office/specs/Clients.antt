@@ -1,8 +1,13 @@
 -- A client's connection: what is let through, and what is kept of it.
-use Rattle.std.specs.Prelude.{◌≡◌, ◌⊎◌, ℕ, ◌-◌, ◌==◌, ◌&&◌, ◌||◌, not, if◌then◌else◌, Bool, true, false, List, [], ◌++◌, length, Ok}
+use Rattle.std.specs.Prelude.{◌≡◌, ◌⊎◌, ℕ, ◌-◌, ◌==◌, ◌&&◌, ◌||◌, not, if◌then◌else◌, Bool, true, false, List, [], ◌++◌, drop, length, Ok}
 use Rattle.httparse.specs.Grammar.{RequestHead}
-use Rattle.http1.specs.declared.framing.Framing.{Framing}
+use Rattle.httparse.specs.declared.spans.HeaderSpan.{HeaderSpan}
+use Rattle.http1.specs.Decoder.{decoder_for, Continues, Ends}
 use Rattle.http1.specs.Message.{AcceptsRequest}
+use Rattle.http1.specs.Server.{after_piece}
+use Rattle.http1.specs.declared.conn.Reading.TheVariants as reading
+use Rattle.http1.specs.declared.decode.Decoder.{Decoder}
+use Rattle.http1.specs.declared.framing.Framing.{Framing}
 use Rattle.bx_office.specs.Targets.{query_in}
 use Rattle.bx_office.specs.Heads.{IsVerdict, key_asked}
 use Rattle.bx_office.specs.Replies.{reply_text}
@@ -12,7 +17,7 @@ use Rattle.bx_office.specs.declared.client.Stage.{Stage}
 use Rattle.bx_office.specs.declared.client.Stage.TheVariants.{Head, Body, Asked, Last}
 use Rattle.bx_office.specs.declared.gate.Route.{Route}
 
--- a request was let through: its head stood first in what came, and the gate let it through
+-- a request was let through: its head stood first in what came, the gate let it through, and its body is read by the framing of its head
 pub record IsAdmitted (old new : Client) (route : Route) : Type 0 where
   pub head : RequestHead
   pub framing : Framing
@@ -20,20 +25,53 @@ pub record IsAdmitted (old new : Client) (route : Route) : Type 0 where
   pub verdict : IsVerdict old.place head (Ok route)
   pub query : new.query.items ≡ query_in head.target
   pub key : new.key ≡ key_asked head
+  pub reads : new.server.reading ≡ reading.Body (decoder_for old.server.limits framing)
   pub body : new.body.items ≡ []
 
--- a piece of its body was read, or none
+-- So many octets were read of its body, which held this piece of it, or none: what is left of the body follows them, as the framing of its
+-- head has it, and they are not read again
 pub record IsReadOn (old new : Client) (route : Route) : Type 0 where
   pub before : old.stage ≡ Body route
   pub query : new.query.items ≡ old.query.items
   pub key : new.key ≡ old.key
+  pub decoder : Decoder
+  pub reads : old.server.reading ≡ reading.Body decoder
+  pub next : Decoder
+  pub server : new.server ≡ after_piece old.server old.unread.items (reading.Body next)
+  pub len : ℕ
   pub piece : List ℕ
+  pub went : Continues decoder old.unread.items next len piece
+  pub unread : new.unread.items ≡ drop len old.unread.items
   pub body : new.body.items ≡ old.body.items ++ piece
 
--- the body of the request of this route is due after a step
+-- nothing was read of it
+pub record IsBodyUnread (old new : Client) (route : Route) : Type 0 where
+  pub before : old.stage ≡ Body route
+  pub query : new.query.items ≡ old.query.items
+  pub key : new.key ≡ old.key
+  pub server : new.server ≡ old.server
+  pub unread : new.unread.items ≡ old.unread.items
+  pub body : new.body.items ≡ old.body.items
+
+-- its body was read to its end, which stands after so many octets
+pub record IsBodyOver (old new : Client) (route : Route) : Type 0 where
+  pub before : old.stage ≡ Body route
+  pub query : new.query.items ≡ old.query.items
+  pub key : new.key ≡ old.key
+  pub decoder : Decoder
+  pub reads : old.server.reading ≡ reading.Body decoder
+  pub server : new.server ≡ after_piece old.server old.unread.items reading.Done
+  pub len : ℕ
+  pub spans : List HeaderSpan
+  pub count : ℕ
+  pub ends : Ends decoder old.unread.items spans len count
+  pub unread : new.unread.items ≡ drop len old.unread.items
+  pub body : new.body.items ≡ old.body.items
+
+-- the body of the request of this route is due after a step, or it was read to its end
 abbrev pub IsDueAfter : Client → Client → Stage → Type 0
-IsDueAfter old new (Body route) = IsAdmitted old new route ⊎ IsReadOn old new route
-IsDueAfter old new (Asked route) = (old.stage ≡ Asked route) ⊎ ((old.stage ≡ Body route) × (new.query.items ≡ old.query.items) × (new.key ≡ old.key) × (new.body.items ≡ old.body.items))
+IsDueAfter old new (Body route) = IsAdmitted old new route ⊎ (IsReadOn old new route ⊎ IsBodyUnread old new route)
+IsDueAfter old new (Asked route) = ((old.stage ≡ Asked route) × (new ≡ old)) ⊎ IsBodyOver old new route
 IsDueAfter old new _ = Unit {0}
 
 -- ---- what each function of it does

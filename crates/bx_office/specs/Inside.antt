@@ -1,9 +1,10 @@
 -- Private: what the functions of a client promise one another.
 use Rattle.std.specs.Prelude.{◌≡◌, ℕ, List, [], drop, Result, Ok, ◌++◌, map, Option}
 use Rattle.httparse.specs.Grammar.{RequestHead}
-use Rattle.httparse.specs.Spans.{IsRequestAt, header_bytes}
+use Rattle.httparse.specs.Spans.{IsRequestAt, header_bytes, span_bytes}
 use Rattle.httparse.specs.declared.spans.HeaderSpan.{HeaderSpan}
 use Rattle.httparse.specs.declared.spans.RequestSpans.{RequestSpans}
+use Rattle.httparse.specs.declared.spans.Span.{Span}
 use Rattle.http1.specs.Server.{after_end}
 use Rattle.http1.specs.declared.server.Server.{Server}
 use Rattle.bx_office.specs.Targets.{query_in}
@@ -26,11 +27,12 @@ IsUndue (Asked route) = ⊥
 IsUndue _ = Unit {0}
 
 -- a head was let through
-pub record IsBegun (place : Place) (input : List ℕ) (spans : List HeaderSpan) (r : RequestSpans) (route : Route) (new : Client) : Type 0 where
+pub record IsBegun (place : Place) (server : Server) (input : List ℕ) (spans : List HeaderSpan) (r : RequestSpans) (route : Route) (new : Client) : Type 0 where
   pub verdict : (h : RequestHead) → IsRequestAt input spans r h → IsVerdict place h (Ok route)
   pub query : (h : RequestHead) → IsRequestAt input spans r h → new.query.items ≡ query_in h.target
   pub key : (h : RequestHead) → IsRequestAt input spans r h → new.key ≡ key_asked h
   pub unread : new.unread.items ≡ drop r.len input
+  pub reading : new.server.reading ≡ server.reading
   pub body : new.body.items ≡ []
 
 -- a head was taken, with what the gate answers to it
@@ -43,7 +45,7 @@ IsHeadTaken spans r old new verdict =
 -- a head was let through, and its body is due
 abbrev pub IsBodyBegun : List HeaderSpan → RequestSpans → Client → Client → Type 0
 IsBodyBegun spans r old new =
-    (route : Route) × (new.stage ≡ Body route) × IsBegun old.place old.unread.items spans r route new
+    (route : Route) × (new.stage ≡ Body route) × IsBegun old.place old.server old.unread.items spans r route new
 
 -- the body of a request of this route is due, and nothing of it was read
 abbrev pub IsBodyDue : Route → Client → Client → Type 0
@@ -53,31 +55,38 @@ IsBodyDue route old new =
     × (new.unread.items ≡ old.unread.items)
     × (new.query.items ≡ old.query.items)
     × (new.key ≡ old.key)
+    × (new.server.reading ≡ old.server.reading)
 
 -- a piece of a body was read
-abbrev pub HasKept : List ℕ → Client → Client → Type 0
+abbrev pub HasKept : Span → Client → Client → Type 0
 HasKept piece old new =
     (new.stage ≡ old.stage)
     × (new.query ≡ old.query)
     × (new.key ≡ old.key)
-    × (new.body.items ≡ old.body.items ++ piece)
+    × (new.server ≡ old.server)
+    × (new.unread.items ≡ drop piece.end old.unread.items)
+    × (new.body.items ≡ old.body.items ++ span_bytes old.unread.items piece)
 
--- nothing of a body was read
-abbrev pub HasWaited : Client → Client → Type 0
-HasWaited old new =
+-- nothing of a body was read, but so many octets that hold none of it
+abbrev pub HasWaited : ℕ → Client → Client → Type 0
+HasWaited len old new =
     (new.stage ≡ old.stage)
     × (new.query ≡ old.query)
     × (new.key ≡ old.key)
+    × (new.server ≡ old.server)
+    × (new.unread.items ≡ drop len old.unread.items)
     × (new.body ≡ old.body)
 
--- a body was read to its end: the request waits for its answer
-abbrev pub HasAsked : Client → Client → Type 0
-HasAsked old new =
+-- a body was read to its end, after so many octets: the request waits for its answer
+abbrev pub HasAsked : ℕ → Client → Client → Type 0
+HasAsked len old new =
     (route : Route)
     × (old.stage ≡ Body route)
     × (new.stage ≡ Asked route)
     × (new.query ≡ old.query)
     × (new.key ≡ old.key)
+    × (new.server ≡ old.server)
+    × (new.unread.items ≡ drop len old.unread.items)
     × (new.body ≡ old.body)
 
 -- the values of the fields of this name, and the first of them, by the places of the fields in what was read

@@ -63,7 +63,7 @@ pub struct Client {
 }
 
 impl Client {
-    ghost use Rattle.std.specs.Prelude.{◌≡◌, ◌⊎◌, ◌++◌, ◌/◌, [], max, min, drop, slice_range, true, false, IsTrue, IfSome};
+    ghost use Rattle.std.specs.Prelude.{◌≡◌, ◌⊎◌, ◌++◌, ◌/◌, [], max, min, drop, true, false, IsTrue, IfSome};
     ghost use Rattle.httpdate.specs.Date.{unix_secs};
     ghost use Rattle.bx_office.specs.Targets.{query_in};
     ghost use Rattle.httparse.specs.Spans.{IsRequestWithin};
@@ -261,6 +261,7 @@ impl Client {
         requires len { head.now.len ≤ length self.old.unread.items }
         ensures taken { IfSome result (IsHeadTaken spans.now head.now self.old self.new) }
         ensures unread { self.new.unread.items ≡ drop head.now.len self.old.unread.items }
+        ensures server { self.new.server ≡ self.old.server }
         ensures place { self.new.place ≡ self.old.place }
         ensures kept { self.new.kept ≡ self.old.kept }
     {
@@ -324,7 +325,8 @@ impl Client {
 
     /// Says that the body is wanted, where the client waits for that. Answers whether memory was had.
     fn ask_for_body(&mut self) -> bool
-        ensures { self.new ≡ record self.old { server = self.new.server; out = self.new.out } }
+        ensures rest { self.new ≡ record self.old { server = self.new.server; out = self.new.out } }
+        ensures reading { self.new.server.reading ≡ self.old.server.reading }
     {
         !self.server.expects_continue()
             || self
@@ -362,7 +364,7 @@ impl Client {
     /// A piece of a body was read.
     fn keep(&mut self, piece: Span)
         requires { (piece.start ≤ piece.end) × (piece.end ≤ length self.old.unread.items) }
-        ensures stage { IsUndue self.new.stage ⊎ HasKept (slice_range self.old.unread.items piece.start piece.end) self.old self.new }
+        ensures stage { IsUndue self.new.stage ⊎ HasKept piece self.old self.new }
         ensures place { self.new.place ≡ self.old.place }
         ensures kept { self.new.kept ≤ self.old.kept }
     {
@@ -384,7 +386,7 @@ impl Client {
     /// The end of a body was read: the request waits for its answer, or is refused.
     fn finish(&mut self, consumed: usize)
         requires { consumed ≤ length self.old.unread.items }
-        ensures stage { IsUndue self.new.stage ⊎ HasAsked self.old self.new }
+        ensures stage { IsUndue self.new.stage ⊎ HasAsked consumed self.old self.new }
         ensures place { self.new.place ≡ self.old.place }
         ensures kept { self.new.kept ≤ self.old.kept }
     {
@@ -399,7 +401,7 @@ impl Client {
     /// More octets are wanted. Where none come, or there is no room for them, the client is given up.
     fn wait(&mut self, consumed: usize)
         requires { consumed ≤ length self.old.unread.items }
-        ensures stage { IsLeft self.new ⊎ HasWaited self.old self.new }
+        ensures stage { IsLeft self.new ⊎ HasWaited consumed self.old self.new }
         ensures place { self.new.place ≡ self.old.place }
         ensures kept { self.new.kept ≤ self.old.kept }
     {

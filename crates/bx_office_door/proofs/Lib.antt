@@ -1,3 +1,4 @@
+mod Counted
 pub mod Standing
 pub mod GivenNumbers
 pub mod KeptSums

@@ -11,6 +11,7 @@ guests_of door = door.guests.items
 pub record IsStill (old new : Door) : Type 0 where
   pub answers : new.answers ≡ old.answers
   pub shown : new.shown ≡ old.shown
+  pub heard : new.is_heard ≡ old.is_heard
   pub opens : new.opens ≡ old.opens
   pub figures : new.figures ≡ old.figures
 
@@ -18,13 +19,14 @@ pub record IsStill (old new : Door) : Type 0 where
 abbrev pub is_early : Door → Bool
 is_early door = nat_lt door.shown door.opens
 
--- Who came stands after the others, by the numbers that are given next; some are gone, and all that stay do so in their order. The clock showed this then, and
--- no answer is counted
-pub record IsAttended (now : ℕ) (old new : Door) : Type 0 where
+-- Who came stands after the others, by the numbers that are given next; some are gone, and all that stay do so in their order. The clock showed this then, the
+-- other end of the line was heard of late or not, and no answer is counted
+pub record IsAttended (now : ℕ) (is_heard : Bool) (old new : Door) : Type 0 where
   pub count : old.count ≤ new.count
   pub numbers : IsThinned (numbers_of (guests_of old) ++ given_since old.count new.count) (numbers_of (guests_of new))
   pub answers : new.answers ≡ old.answers
   pub shown : new.shown ≡ now
+  pub heard : new.is_heard ≡ is_heard
   pub opens : new.opens ≡ old.opens
   pub figures : new.figures ≡ old.figures
   -- whoever waits for an answer has asked since the day began

@@ -1,4 +1,4 @@
--- Private: what a wire keeps of the clock, in nanoseconds.
+-- What a wire keeps of the clock, in nanoseconds.
 use Rattle.std.specs.Prelude.{ℕ, ◌-◌, nat_le, Bool, false, Option, Some, None}
 
 -- a frame came within 15 seconds

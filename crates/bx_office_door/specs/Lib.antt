@@ -9,3 +9,9 @@ pub mod Inside
 pub mod Patience
 pub mod Waiting
 pub mod Hearing
+pub mod Received
+pub mod Listening
+pub mod Guesting
+pub mod Lending
+pub mod Attending
+pub mod SharedDoors

@@ -8,3 +8,8 @@ abbrev pub IsCome : Came → ℕ → Type 0
 IsCome Nothing room = Unit {0}
 IsCome (Octets count) room = count ≤ room
 IsCome End room = Unit {0}
+
+-- how many octets came, or went
+abbrev pub octet_count : Came → ℕ
+octet_count (Octets count) = count
+octet_count _ = 0

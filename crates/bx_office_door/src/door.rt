@@ -36,6 +36,8 @@ pub struct Door {
     answers: u64,
     /// What the clock showed last, in nanoseconds.
     shown: u128,
+    /// Whether the other end of the line was heard of late then.
+    is_heard: bool,
     /// When the day begins, in nanoseconds since 1970.
     opens: u128,
     /// The figures that are told until then, where memory was had for them.
@@ -60,6 +62,7 @@ impl Door {
         ensures figures { result.figures ≡ None }
         ensures lacked { result.has_lacked ≡ false }
         ensures counts { (result.count ≡ 0) × (result.answers ≡ 0) × (result.shown ≡ 0) }
+        ensures heard { result.is_heard ≡ false }
     {
         Door {
             alloc,
@@ -70,6 +73,7 @@ impl Door {
             has_lacked: false,
             answers: 0,
             shown: 0,
+            is_heard: false,
             opens,
             figures: None,
         }
@@ -127,7 +131,7 @@ impl Door {
     }
 
     /// Moves what is ready of each client. Before the day begins nobody waits for an answer after it.
-    fn go_on(&mut self, now: u128, is_heard: bool)
+    fn go_on(&mut self, now: u128)
         ensures early { now < self.old.opens → first_asked (guests_of self.new) ≡ None }
         ensures count { self.new.count ≡ self.old.count }
         ensures numbers { numbers_of (guests_of self.new) ≡ numbers_of (guests_of self.old) }
@@ -136,7 +140,7 @@ impl Door {
         let is_full = self.guests.len() > MAX_GUESTS;
         for index in 0..self.guests.len() {
             let free = self.free_at(index);
-            let eve = eve_at(self.opens, now, is_heard, &self.figures);
+            let eve = eve_at(self.opens, now, self.is_heard, &self.figures);
             self.guests[index].attend(now, is_full, free, eve);
         }
     }
@@ -153,11 +157,12 @@ impl Door {
     /// Moves what is ready, and never waits: `now` is what the clock shows, in nanoseconds. Who comes stands after the others. Before the day
     /// begins whoever asks is answered at once (`at_once`), and told whether the other end of the line was heard of late.
     pub fn attend(&mut self, now: u128, is_heard: bool)
-        ensures { IsAttended now self.old self.new }
+        ensures { IsAttended now is_heard self.old self.new }
     {
         self.shown = now;
+        self.is_heard = is_heard;
         self.let_in(now);
-        self.go_on(now, is_heard);
+        self.go_on(now);
         self.let_out();
     }
 
@@ -253,7 +258,7 @@ impl Door {
         ensures answered { IsAnsweredThere number reply.entry (guests_of self.old) (guests_of self.new) }
         ensures answers { self.new.answers ≡ answers_after number self.old }
         ensures count { self.new.count ≡ self.old.count }
-        ensures shown { self.new.shown ≡ self.old.shown }
+        ensures shown { (self.new.shown ≡ self.old.shown) × (self.new.is_heard ≡ self.old.is_heard) }
         ensures opens { (self.new.opens ≡ self.old.opens) × (self.new.figures ≡ self.old.figures) }
     {
         let Some(index) = self.place_of(number) else {

@@ -2,6 +2,7 @@
 
 ghost use Rattle.std.specs.Prelude.{◌≡◌, ◌≤◌, max, true, false, Some, length, is_some};
 ghost use Rattle.bx_office_door.specs.Guests.{IsGuestTold};
+ghost use Rattle.bx_office_door.specs.Guesting.{HasHeard, HasSent, IsToldHere};
 ghost use Rattle.bx_office_door.specs.Patience.{patience_of, is_out_of_time, may_stand, is_watched, StaysQuiet};
 ghost use Rattle.bx_office_door.specs.Waiting.{waits_for_answer};
 
@@ -20,6 +21,9 @@ const BODY_A_SECOND: usize = 16_384;
 
 /// A second, in nanoseconds.
 const SECOND: u128 = 1_000_000_000;
+
+/// How many octets are thrown away at a time, at most.
+const DRAINED: usize = 4096;
 
 /// How often is read and written at a time, at most, and how many things are read of what came.
 const TURNS: u32 = 64;
@@ -109,22 +113,22 @@ impl Guest {
 
     /// Reads once. Answers whether something came. With its first octet a request has its time before it.
     fn read(&mut self, now: u128) -> bool
+        ensures heard { HasHeard self.old self.new }
         ensures quiet { StaysQuiet self.old self.new }
         ensures number { self.new.number ≡ self.old.number }
         ensures kept { self.new.client.kept ≤ self.old.client.kept }
     {
-        let mut room = [0u8; 4096];
-        let most = self.client.room().min(room.len());
+        let most = self.client.room();
         if most == 0 {
             return false;
         }
-        match self.stream.receive(&mut room[..most]) {
+        match self.stream.receive(most) {
             Came::Nothing => false,
-            Came::Octets(count) => {
+            Came::Octets(_) => {
                 if self.client.is_between() {
                     self.since = Some(now);
                 }
-                self.client.take(&room[..count]);
+                self.client.take(self.stream.octets());
                 self.heard = now;
                 true
             }
@@ -138,6 +142,7 @@ impl Guest {
     /// Answers what needs nothing of the day, and before it begins all else; and who came beyond the places, and asks for what is not for a
     /// monitor, by when to ask again.
     fn reply(&mut self, eve: Option<Eve<'_>>)
+        ensures told { IsToldHere eve.entry self.old.is_spare self.old.client self.new.client }
         ensures early { is_some eve.entry ≡ true → waits_for_answer self.new.client.stage ≡ false }
         ensures number { self.new.number ≡ self.old.number }
         ensures spare { may_stand self.new.is_spare self.new.client.stage ≡ true }
@@ -171,6 +176,7 @@ impl Guest {
 
     /// Writes once. Answers whether something went.
     fn write(&mut self, now: u128) -> bool
+        ensures sent { HasSent self.old self.new }
         ensures quiet { StaysQuiet self.old self.new }
         ensures number { self.new.number ≡ self.old.number }
         ensures kept { self.new.client.kept ≤ self.old.client.kept }
@@ -197,6 +203,7 @@ impl Guest {
 
     /// Throws away what still comes after the last answer. Answers whether something came.
     fn drain(&mut self) -> bool
+        ensures client { self.new.client ≡ self.old.client }
         ensures quiet { StaysQuiet self.old self.new }
         ensures number { self.new.number ≡ self.old.number }
         ensures kept { self.new.client.kept ≤ self.old.client.kept }
@@ -205,8 +212,7 @@ impl Guest {
             self.stream.shut();
             self.is_shut = true;
         }
-        let mut room = [0u8; 4096];
-        match self.stream.receive(&mut room) {
+        match self.stream.receive(DRAINED) {
             Came::Nothing => false,
             Came::Octets(_) => true,
             Came::End => {

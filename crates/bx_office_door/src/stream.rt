@@ -1,12 +1,13 @@
 //! Sockets that never wait.
 
 ghost use Rattle.std.specs.Prelude.{◌≡◌, ◌≤◌, ℕ, IfOk, length};
-ghost use Rattle.bx_office_door.specs.Streams.{IsCome};
+ghost use Rattle.bx_office_door.specs.Streams.{IsCome, octet_count};
 ghost use Rattle.bx_office_door.specs.Unmets.{unmet_of};
 
+use crate::listens::Listens;
 use std::io;
 use std::io::{ErrorKind, Read, Write};
-use std::net::{Net, Shutdown, TcpListener, TcpStream};
+use std::net::{Shutdown, TcpListener, TcpStream};
 use std::os::fd::OwnedFd;
 use std::os::unix::net::UnixListener;
 
@@ -21,9 +22,32 @@ pub enum Came {
     End,
 }
 
-/// A connection that never waits. One at a path is held as one at a port is, which can look at what is there without taking it.
+/// The most octets that are read at once.
+const ROOM: usize = 4096;
+
+/// A connection that never waits, with what its last read and its last write came to. One at a path is held as one at a port is, which can look
+/// at what is there without taking it.
 #[derive(Drop)]
-pub struct Stream(TcpStream);
+pub struct Stream {
+    socket: TcpStream,
+    /// What was read last stands at its start.
+    room: [u8; 4096],
+    /// How many octets these are.
+    count: usize,
+    came: Came,
+    went: Came,
+    ghost within: { count ≤ 4096 },
+}
+
+/// How many octets came, or went.
+fn octet_count(came: Came) -> usize
+    ensures { result ≡ octet_count came }
+{
+    match came {
+        Came::Octets(count) => count,
+        _ => 0,
+    }
+}
 
 /// What a read or a write came to.
 fn came_of(done: io::Result<usize>) -> Came
@@ -40,31 +64,62 @@ fn came_of(done: io::Result<usize>) -> Came
 }
 
 impl Stream {
-    /// Reads what is there.
-    pub fn receive(&mut self, room: &mut [u8]) -> Came
-        ensures { IsCome result (length room.new) }
+    ghost use Rattle.bx_office_door.specs.Received.{last_octets};
+
+    /// A connection of which nothing was read yet, and to which nothing was written.
+    fn new(socket: TcpStream) -> Stream {
+        Stream {
+            socket,
+            room: [0; 4096],
+            count: 0,
+            came: Came::Nothing,
+            went: Came::Nothing,
+        }
+    }
+
+    /// Reads what is there, at most so many octets.
+    pub fn receive(&mut self, most: usize) -> Came
+        ensures came { result ≡ self.new.came }
+        ensures counted { self.new.count ≡ octet_count result }
+        ensures within { IsCome result most }
     {
-        came_of(self.0.read(room))
+        let most = most.min(ROOM);
+        let room = &mut self.room[..];
+        self.came = came_of(self.socket.read(&mut room[..most]));
+        self.count = octet_count(self.came);
+        self.came
+    }
+
+    /// The octets that were read last.
+    pub fn octets(&self) -> &[u8]
+        ensures { result.now ≡ last_octets self.now }
+    {
+        &self.room[..self.count]
     }
 
     /// Writes what there is room for.
     pub fn send(&mut self, octets: &[u8]) -> Came
-        ensures { IsCome result (length octets.now) }
+        ensures went { result ≡ self.new.went }
+        ensures within { IsCome result (length octets.now) }
     {
-        came_of(self.0.write(octets))
+        self.went = came_of(self.socket.write(octets));
+        self.went
     }
 
     /// Says that nothing more is written.
     pub fn shut(&self) {
-        let _ = self.0.shutdown(Shutdown::Write);
+        let _ = self.socket.shutdown(Shutdown::Write);
     }
 
     /// Whether the other side has closed its own, or the socket failed. Nothing is taken of what is there to be read.
     pub fn has_closed(&self) -> bool {
         let mut room = [0u8; 1];
-        matches!(came_of(self.0.peek(&mut room)), Came::End)
+        matches!(came_of(self.socket.peek(&mut room)), Came::End)
     }
 }
+
+/// The address of the loopback interface.
+const LOOPBACK: [u8; 4] = [127, 0, 0, 1];
 
 /// A listener that never waits.
 #[derive(Drop)]
@@ -100,12 +155,13 @@ fn unmet_of(fault: Option<i32>) -> Unmet
 }
 
 impl Listening {
+    ghost use Rattle.bx_office_door.specs.Listening.{IsAtPort};
+
     /// Listens at a port of the loopback interface. The port 0 is one that the system chooses.
-    pub fn at_port<H: Net<Listener = TcpListener, Stream = TcpStream>>(
-        rt: &H,
-        port: u16,
-    ) -> io::Result<Listening> {
-        let listener = TcpListener::bind(rt, ("127.0.0.1", port))?;
+    pub fn at_port<H: Listens>(rt: &H, port: u16) -> io::Result<Listening>
+        ensures { IfOk result (IsAtPort (H.listens rt.now) port) }
+    {
+        let listener = rt.listen(LOOPBACK, port)?;
         listener.set_nonblocking(true)?;
         Ok(Listening::Port(listener))
     }
@@ -129,7 +185,7 @@ impl Listening {
     /// The next client, where one waits; else why there is none.
     pub fn accept(&self) -> Result<Stream, Unmet> {
         match self.accepted() {
-            Ok(stream) => Ok(Stream(stream)),
+            Ok(socket) => Ok(Stream::new(socket)),
             Err(fault) => Err(unmet_of(fault.raw_os_error())),
         }
     }

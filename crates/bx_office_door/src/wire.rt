@@ -1,15 +1,14 @@
 //! A wire with the door beside it.
 
-ghost use Rattle.std.specs.Prelude.{◌≡◌, ◌≤◌, ◌∷◌, [], ℕ, List, Option, IfSome, length};
+ghost use Rattle.std.specs.Prelude.{◌≡◌, ◌≤◌, ◌∷◌, [], ℕ, List, Option, None, IfSome, length};
 ghost use Rattle.bx_line_world.specs.Wires.{WireAct, Waited, came_in};
-ghost use Rattle.bx_office_door.specs.Inside.{did_inside_more};
-ghost use Rattle.bx_office_door.specs.Sliced.{slice_at_once, DidInside};
+ghost use Rattle.bx_office_door.specs.Attending.{DidBeside};
+ghost use Rattle.bx_office_door.specs.Inside.{beside_nothing, beside_more};
+ghost use Rattle.bx_office_door.specs.Sliced.{slice_at_once};
 ghost use Rattle.bx_office_door.specs.Hearing.{is_heard};
 
-use crate::door::Door;
+use crate::shared::{Lends, attend};
 use bx_line_world::Wire;
-use std::cell::RefCell;
-use std::rc::Rc;
 
 /// A slice of a wait for a frame, after which the door is looked at again, in nanoseconds.
 const SLICE: u64 = 10_000_000;
@@ -27,9 +26,9 @@ fn slice_of(wait: u64) -> u64
 
 /// A wire, and a door that is attended while a frame is waited for.
 #[derive(Drop)]
-pub struct OfficeWire<W> {
+pub struct OfficeWire<W, S> {
     pub wire: W,
-    door: Rc<RefCell<Door>>,
+    door: S,
     /// What the clock showed last.
     shown: u128,
     /// What it showed when the last frame came.
@@ -46,10 +45,12 @@ fn is_heard(heard: Option<u128>, shown: u128) -> bool
     }
 }
 
-impl<W> OfficeWire<W> {
-    /// The wire, with this door beside it. Whoever answers at the door has it too, so it stands in a cell that both share.
-    pub fn new(wire: W, door: Rc<RefCell<Door>>) -> Self
-        ensures { result.wire ≡ wire }
+impl<W, S> OfficeWire<W, S> {
+    /// The wire, with this door beside it. Whoever answers at the door has it too.
+    pub fn new(wire: W, door: S) -> Self
+        ensures wire { result.wire ≡ wire }
+        ensures door { result.door ≡ door }
+        ensures clock { (result.shown ≡ 0) × (result.heard ≡ None) }
     {
         OfficeWire {
             wire,
@@ -60,17 +61,8 @@ impl<W> OfficeWire<W> {
     }
 }
 
-impl<W> OfficeWire<W> {
-    /// Moves what is ready at the door.
-    fn attend(&self) {
-        if let Ok(mut door) = self.door.try_borrow_mut() {
-            door.attend(self.shown, is_heard(self.heard, self.shown));
-        }
-    }
-}
-
-impl<W: Wire> Wire for OfficeWire<W> {
-    ghost did = { λ s acts t. DidInside W.did s.wire acts t.wire };
+impl<W: Wire, S: Lends> Wire for OfficeWire<W, S> {
+    ghost did = { λ s acts t. DidBeside W.did S.lent s acts t };
 
     fn shown(&mut self) -> u128 {
         self.shown = self.wire.shown();
@@ -83,7 +75,8 @@ impl<W: Wire> Wire for OfficeWire<W> {
 
     /// Attends the door, and waits for one slice of the time. Whoever waits for more looks at the clock, and calls again.
     fn receive(&mut self, room: &mut [u8], wait: u64) -> Option<usize> {
-        self.attend();
+        let is_heard = is_heard(self.heard, self.shown);
+        attend(&mut self.door, self.shown, is_heard);
         let came = self.wire.receive(room, slice_of(wait));
         if came.is_some() {
             self.heard = Some(self.shown);
@@ -91,7 +84,7 @@ impl<W: Wire> Wire for OfficeWire<W> {
         came
     }
 
-    ghost did_nothing = { λ s. W.did_nothing s.wire };
+    ghost did_nothing = { λ s. beside_nothing W.did S.lent W.did_nothing s };
 
-    ghost did_more = { λ s t u xs ys p q. did_inside_more W.did W.did_more s.wire t.wire u.wire xs ys p q };
+    ghost did_more = { λ s t u xs ys p q. beside_more W.did S.lent W.did_more s t u xs ys p q };
 }

@@ -86,7 +86,7 @@ fn exchange_at(alloc: Global, steps: &[&[u8]], seconds: u32) -> Option<Exchange>
 fn are_told(alloc: Global, case: &Case) -> Option<bool> {
     let exchange = exchange_at(alloc, case.steps, case.seconds)?;
     let channels = ChannelSet::from_numbers(&[1, 2, 3]).ok()?;
-    let outcomes = outcomes_text(alloc, &exchange).ok()?;
+    let outcomes = outcomes_text(alloc, &exchange, &[]).ok()?;
     let records = records_text(alloc, &exchange, None).ok()?;
     let plan = plan_text(alloc, &exchange, channels).ok()?;
     Some(
@@ -144,6 +144,9 @@ bx_answers 0
 # TYPE bx_bookings_sold gauge
 # HELP bx_bookings_sold Bookings that were sold.
 bx_bookings_sold 0
+# TYPE bx_bookings_dropped gauge
+# HELP bx_bookings_dropped Bookings that were given up for want of a channel.
+bx_bookings_dropped 0
 # EOF
 ";
 
@@ -191,6 +194,9 @@ bx_answers 7
 # TYPE bx_bookings_sold gauge
 # HELP bx_bookings_sold Bookings that were sold.
 bx_bookings_sold 2
+# TYPE bx_bookings_dropped gauge
+# HELP bx_bookings_dropped Bookings that were given up for want of a channel.
+bx_bookings_dropped 3
 # TYPE bx_sync_age_seconds gauge
 # UNIT bx_sync_age_seconds seconds
 # HELP bx_sync_age_seconds Seconds since the journal was brought to the disk last.
@@ -205,6 +211,7 @@ fn counted() -> Figures {
     figures.late = 1;
     figures.answers = 7;
     figures.sold = 2;
+    figures.dropped = 3;
     figures.since_sync = Some(3);
     figures.clearings[0] = u64::MAX;
     figures.clearings[16] = 210;
@@ -333,42 +340,108 @@ static RATED_QUESTIONS: [RatedQuestion; 5] = [
     ),
 ];
 
-/// What is answered to a query at the opening of the day, at a rate.
+/// What is answered to a query on a day, at a rate.
 fn quoted(
     alloc: Global,
+    exchange: &Exchange,
     query: &str,
     numbers: &[u8],
     rate: u32,
 ) -> Option<Result<Vec<u8>, NoAnswer>> {
-    let exchange = exchange_at(alloc, &[], 0)?;
     let channels = ChannelSet::from_numbers(numbers).ok()?;
     let day = Day::new("2026-01-05", "UTC0").ok()?;
     let call = match call_of(alloc, query.as_bytes(), &day) {
         Ok(call) => call,
         Err(why) => return Some(Err(why)),
     };
-    Some(quote_text(alloc, &exchange, channels, rate, &call))
+    Some(quote_text(alloc, exchange, channels, rate, &call))
 }
 
-/// Whether a question has its answer.
-fn is_answered(alloc: Global, question: &Question) -> bool {
-    match (quoted(alloc, question.1, question.2, 0), question.3) {
+/// Whether a question has its answer on a day.
+fn is_answered(alloc: Global, exchange: &Exchange, question: &Question) -> bool {
+    match (
+        quoted(alloc, exchange, question.1, question.2, 0),
+        question.3,
+    ) {
         (Some(Ok(text)), Ok(expected)) => text.as_slice() == expected.as_bytes(),
         (Some(Err(why)), Err(expected)) => why == expected,
         _ => false,
     }
 }
 
+/// The exchange at the opening of the day, or where channel 1 is lost, on which its first call was not cleared.
+fn opened_or_lost(alloc: Global, is_lost: bool) -> Option<Exchange> {
+    if is_lost {
+        exchange_at(alloc, &[TICK, CONNECT], 97)
+    } else {
+        exchange_at(alloc, &[], 0)
+    }
+}
+
+/// Whether a question has its answer at the opening of the day, or where a channel is lost.
+fn is_answered_at(alloc: Global, is_lost: bool, question: &Question) -> bool {
+    match opened_or_lost(alloc, is_lost) {
+        Some(exchange) => is_answered(alloc, &exchange, question),
+        None => false,
+    }
+}
+
 #[test]
 fn questions_are_answered(rt: HostRuntime) {
     for question in &QUESTIONS {
-        assert!(rt; is_answered(rt.alloc(), question), "{}", question.0);
+        assert!(rt;
+            is_answered_at(rt.alloc(), false, question),
+            "{}",
+            question.0
+        );
+    }
+}
+
+/// Where channel 1 is in maintenance.
+static LOST_QUESTIONS: [Question; 4] = [
+    (
+        "on the channel that is left",
+        "start=2026-01-05T00:02:40Z&end=2026-01-05T00:02:50Z",
+        &[1, 2],
+        Ok(FREE),
+    ),
+    (
+        "the promised one has the channel that is left",
+        "start=2026-01-05T00:02:30Z&end=2026-01-05T00:02:40Z",
+        &[1, 2],
+        Err(NoAnswer::Quote(NoQuote::NoChannel(150))),
+    ),
+    (
+        "on a third one",
+        "start=2026-01-05T00:02:30Z&end=2026-01-05T00:02:40Z",
+        &[1, 2, 3],
+        Ok(FREE),
+    ),
+    (
+        "none is left",
+        "start=2026-01-05T00:02:40Z&end=2026-01-05T00:02:50Z",
+        &[1],
+        Err(NoAnswer::TooManyMust(150)),
+    ),
+];
+
+#[test]
+fn questions_are_answered_of_the_channels_that_are_left(rt: HostRuntime) {
+    for question in &LOST_QUESTIONS {
+        assert!(rt;
+            is_answered_at(rt.alloc(), true, question),
+            "{}",
+            question.0
+        );
     }
 }
 
 /// Whether a question at a rate has its answer.
 fn is_rated(alloc: Global, question: &RatedQuestion) -> bool {
-    match quoted(alloc, question.1, &[1, 2, 3], question.2) {
+    let Some(exchange) = exchange_at(alloc, &[], 0) else {
+        return false;
+    };
+    match quoted(alloc, &exchange, question.1, &[1, 2, 3], question.2) {
         Some(Ok(text)) => text.as_slice() == question.3.as_bytes(),
         _ => false,
     }
@@ -531,22 +604,53 @@ fn freed(
     Some(free_text(alloc, &opened, exchange, wish))
 }
 
-/// Whether a wish has its answer at the opening of the day.
-fn is_freed(alloc: Global, wished: &Wished) -> bool {
-    let Some(exchange) = exchange_at(alloc, &[], 0) else {
-        return false;
-    };
-    match (freed(alloc, &exchange, wished, 600), wished.4) {
+/// Whether a wish has its answer on a day.
+fn is_freed_on(alloc: Global, exchange: &Exchange, wished: &Wished) -> bool {
+    match (freed(alloc, exchange, wished, 600), wished.4) {
         (Some(Ok(text)), Ok(expected)) => text.as_slice() == expected.as_bytes(),
         (Some(Err(why)), Err(expected)) => why == expected,
         _ => false,
     }
 }
 
+/// Whether a wish has its answer at the opening of the day, or where a channel is lost.
+fn is_freed(alloc: Global, is_lost: bool, wished: &Wished) -> bool {
+    match opened_or_lost(alloc, is_lost) {
+        Some(exchange) => is_freed_on(alloc, &exchange, wished),
+        None => false,
+    }
+}
+
 #[test]
 fn free_times_are_told(rt: HostRuntime) {
     for wished in &WISHES {
-        assert!(rt; is_freed(rt.alloc(), wished), "{}", wished.0);
+        assert!(rt; is_freed(rt.alloc(), false, wished), "{}", wished.0);
+    }
+}
+
+/// Where channel 1 is in maintenance.
+static LOST_WISHES: [Wished; 3] = [
+    (
+        "on the channel that is left",
+        "length=10",
+        &[1, 2],
+        false,
+        Ok("from,until\n99,140\n160,600\n"),
+    ),
+    (
+        "on a third one",
+        "length=10",
+        &[1, 2, 3],
+        false,
+        Ok("from,until\n99,600\n"),
+    ),
+    ("none is left", "length=10", &[1], false, Ok("from,until\n")),
+];
+
+#[test]
+fn free_times_are_those_of_the_channels_that_are_left(rt: HostRuntime) {
+    for wished in &LOST_WISHES {
+        assert!(rt; is_freed(rt.alloc(), true, wished), "{}", wished.0);
     }
 }
 
@@ -627,11 +731,11 @@ static BATCHES: [Batch; 11] = [
             Answer::Refused(NoSale::Late),
             Answer::Accepted,
             Answer::Refused(NoSale::NoChannel),
-            Answer::Refused(NoSale::OtherChannels),
+            Answer::Refused(NoSale::TookOver),
             Answer::Accepted,
             Answer::Refused(NoSale::Memory),
         ],
-        told: "row,answer,plan row,reason\n1,refused,,Late\n2,accepted,4,\n3,refused,,NoChannel\n4,refused,,OtherChannels\n5,accepted,5,\n6,refused,,Memory\n",
+        told: "row,answer,plan row,reason\n1,refused,,Late\n2,accepted,4,\n3,refused,,NoChannel\n4,refused,,TookOver\n5,accepted,5,\n6,refused,,Memory\n",
     },
     Batch {
         name: "of one, two and three seconds",

@@ -11,7 +11,10 @@ mod exchanges;
 mod gates;
 mod keys;
 #[cfg(test)]
+mod lost_channels;
+#[cfg(test)]
 mod offices;
+mod pages;
 #[cfg(test)]
 mod quiet_world;
 #[cfg(test)]

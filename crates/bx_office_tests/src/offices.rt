@@ -3,20 +3,19 @@
 use crate::quiet_world::QuietWorld;
 use bx_base::ChannelSet;
 use bx_calendar::Day;
-use bx_day::Exchange;
+use bx_day::{Exchange, GivenUp};
+use bx_events::Amendment;
 use bx_live::Begin;
 use bx_market::run_market;
 use bx_office::Place;
-use bx_office_door::{Door, Listening};
+use bx_office_door::{Door, Listening, SharedDoor};
 use bx_office_world::{Ledger, Office, OfficeWorld, Opened};
-use bx_sales::Tag;
+use bx_sales::{Tag, none_given_up, note};
 use bx_worked_days::{Row, exchange_of};
 use std::alloc::Global;
-use std::cell::RefCell;
 use std::io;
 use std::io::{Read, Write};
 use std::net::{Net, TcpListener, TcpStream};
-use std::rc::Rc;
 use std::test::Fail;
 use std::time::Duration;
 
@@ -27,12 +26,12 @@ pub(crate) static ROWS: [Row; 2] = [(100, 200, 1, false), (100, 200, 2, false)];
 pub(crate) fn opened<H: Net<Listener = TcpListener, Stream = TcpStream>>(
     rt: &H,
     alloc: Global,
-) -> io::Result<(Rc<RefCell<Door>>, u16)> {
+) -> io::Result<(SharedDoor, u16)> {
     let listener = TcpListener::bind(rt, "127.0.0.1:0")?;
     listener.set_nonblocking(true)?;
     let port = listener.local_addr()?.port();
     let door = Door::new(alloc, Place::Port(port), Listening::Port(listener), 0);
-    match Rc::new(alloc, RefCell::new(door)) {
+    match SharedDoor::new(alloc, door) {
         Ok(door) => Ok((door, port)),
         Err(_) => Err(io::Error::from(io::ErrorKind::OutOfMemory)),
     }
@@ -84,7 +83,7 @@ fn is_told(stream: &mut TcpStream, expected: &str) -> bool {
 }
 
 /// Whether a client gets this somewhere.
-fn is_told_of(stream: &mut TcpStream, words: &str) -> bool {
+pub(crate) fn is_told_of(stream: &mut TcpStream, words: &str) -> bool {
     let mut room = [0u8; 4096];
     match stream.read(&mut room) {
         Ok(count) if count <= 4096 => room[..count]
@@ -117,36 +116,48 @@ pub(crate) const QUIET: Run = Run {
     is_cleared: false,
 };
 
+/// Seconds without a link, up to this one.
+pub(crate) const fn until(seconds: u32) -> Run {
+    Run {
+        seconds,
+        pace: 1,
+        begin: Begin::Alone,
+        is_cleared: false,
+    }
+}
+
 /// What has become of a run: how many bookings the day has, and how many were sold in the journal and on the disk.
 pub(crate) type Ran = (usize, u32, u32);
 
 /// Runs a day with an office at this door, which was opened with this.
 pub(crate) fn ran_with<'a>(
     alloc: Global,
-    door: &'a Rc<RefCell<Door>>,
+    door: &SharedDoor,
     opened: &'a Opened,
     exchange: Exchange,
     run: Run,
 ) -> Option<Ran> {
-    ran_after(alloc, door, opened, exchange, &[], run)
+    let given_up = none_given_up(alloc).ok()?;
+    ran_after(alloc, door, opened, exchange, &[], given_up, run)
 }
 
-/// The same, where the last bookings of the day were sold before, under these keys.
+/// The same, where the last bookings of the day were sold before, under these keys, and these rows were given up.
 pub(crate) fn ran_after<'a>(
     alloc: Global,
-    door: &'a Rc<RefCell<Door>>,
+    door: &SharedDoor,
     opened: &'a Opened,
     mut exchange: Exchange,
     tags: &[Option<Tag>],
+    given_up: Vec<Option<GivenUp>>,
     run: Run,
 ) -> Option<Ran> {
     let ledger = Ledger::of(alloc, &exchange, tags);
-    let mut quiet = QuietWorld::new(door, run.pace);
+    let mut quiet = QuietWorld::new(door.clone().ok()?, run.pace);
     quiet.begin = run.begin;
     quiet.is_cleared = run.is_cleared;
     let mut world = OfficeWorld {
         world: quiet,
-        office: Office::new(alloc, door.clone().ok()?, opened, ledger),
+        office: Office::new(alloc, door.clone().ok()?, opened, ledger, given_up),
     };
     run_market(
         alloc,
@@ -164,12 +175,12 @@ pub(crate) fn ran_after<'a>(
 }
 
 /// Runs a day on channels 1, 2 and 3 with an office at this door.
-fn ran(alloc: Global, door: &Rc<RefCell<Door>>, run: Run) -> Option<Ran> {
+fn ran(alloc: Global, door: &SharedDoor, run: Run) -> Option<Ran> {
     ran_on(alloc, door, &ROWS, run)
 }
 
 /// The same of a day of these bookings.
-fn ran_on(alloc: Global, door: &Rc<RefCell<Door>>, rows: &[Row], run: Run) -> Option<Ran> {
+fn ran_on(alloc: Global, door: &SharedDoor, rows: &[Row], run: Run) -> Option<Ran> {
     let opened = Opened {
         channels: ChannelSet::from_numbers(&[1, 2, 3]).ok()?,
         day: Day::new("2026-01-05", "UTC0").ok()?,
@@ -273,8 +284,9 @@ fn what_was_sold_under_a_key_before_a_start_is_told_again(rt: HostRuntime) -> Re
         return Err(Fail::from("no exchange"));
     };
     let tags = [Some(TAG), Some(TAG)];
+    let none = none_given_up(alloc)?;
     assert!(rt;
-        ran_after(alloc, &door, &opened, exchange, &tags, QUIET) == Some((4, 0, 0)),
+        ran_after(alloc, &door, &opened, exchange, &tags, none, QUIET) == Some((4, 0, 0)),
         "nothing more is sold"
     );
     assert!(rt;
@@ -583,6 +595,40 @@ fn a_picture_is_drawn(rt: HostRuntime) -> Result<(), Fail> {
     Ok(())
 }
 
+#[test]
+fn an_outage_is_drawn(rt: HostRuntime) -> Result<(), Fail> {
+    let alloc = rt.alloc();
+    for (begin, words) in [
+        (Begin::Alone, "outages of the link: 1</text>"),
+        (Begin::Joined, "outages of the link: 0</text>"),
+    ] {
+        let (door, port) = opened(&rt, alloc)?;
+        let mut asking = client(&rt, alloc, port, "GET /chart.svg", "\r\n")?;
+        let run = Run { begin, ..QUIET };
+        assert!(rt;
+            ran(alloc, &door, run) == Some((2, 0, 0)),
+            "nothing is sold"
+        );
+        assert!(rt; is_told_of(&mut asking, words), "{words}");
+    }
+    Ok(())
+}
+
+/// What is counted of a batch of which two bookings are sold, and of its answer.
+const COUNTED: &str =
+    "\nbx_answers 1\n# TYPE bx_bookings_sold gauge\n# HELP bx_bookings_sold Bookings that were sold.\nbx_bookings_sold 2\n";
+
+#[test]
+fn what_was_sold_and_answered_is_counted(rt: HostRuntime) -> Result<(), Fail> {
+    let alloc = rt.alloc();
+    let (door, port) = opened(&rt, alloc)?;
+    let _customer = client(&rt, alloc, port, "POST /bookings", BATCH)?;
+    let mut asking = client(&rt, alloc, port, "GET /metrics", "\r\n")?;
+    assert!(rt; ran(alloc, &door, QUIET) == Some((4, 2, 2)), "sold");
+    assert!(rt; is_told_of(&mut asking, COUNTED), "counted");
+    Ok(())
+}
+
 /// Whether a call could be carried: the name of the case, how the seconds begin, the last second of the day, the channels in service, how the
 /// answer begins, and how it ends.
 type Ready = (
@@ -638,7 +684,7 @@ static READY: [Ready; 5] = [
 ];
 
 /// Runs a day of four seconds that begin so, with an office that is opened for channels until a last second.
-fn ran_until(alloc: Global, door: &Rc<RefCell<Door>>, ready: &Ready) -> Option<Ran> {
+fn ran_until(alloc: Global, door: &SharedDoor, ready: &Ready) -> Option<Ran> {
     let opened = Opened {
         channels: ChannelSet::from_numbers(ready.3).ok()?,
         day: Day::new("2026-01-05", "UTC0").ok()?,
@@ -785,7 +831,7 @@ static AMENDED: [Amended; 12] = [
 ];
 
 /// Runs such a day for four seconds.
-fn ran_amended(alloc: Global, door: &Rc<RefCell<Door>>) -> Option<Ran> {
+fn ran_amended(alloc: Global, door: &SharedDoor) -> Option<Ran> {
     let opened = Opened {
         channels: ChannelSet::from_numbers(&[1, 2, 3]).ok()?,
         day: Day::new("2026-01-05", "UTC0").ok()?,
@@ -849,6 +895,76 @@ fn what_is_given_up_is_sold_again(rt: HostRuntime) -> Result<(), Fail> {
     assert!(rt;
         is_told_so(&mut after, "HTTP/1.1 200 OK\r\n", "\n1,accepted,6,\n"),
         "after"
+    );
+    Ok(())
+}
+
+#[test]
+fn what_is_given_up_is_told_of_the_day(rt: HostRuntime) -> Result<(), Fail> {
+    let alloc = rt.alloc();
+    let (door, port) = opened(&rt, alloc)?;
+    let _customer = client(&rt, alloc, port, "POST /bookings", ONE_MORE)?;
+    let mut before = client(&rt, alloc, port, "GET /outcomes", "\r\n")?;
+    let _cancelling = client(&rt, alloc, port, "DELETE /bookings/3", "\r\n")?;
+    let _another = client(&rt, alloc, port, "DELETE /bookings/1", "\r\n")?;
+    let mut after = client(&rt, alloc, port, "GET /outcomes", "\r\n")?;
+    assert!(rt; ran(alloc, &door, QUIET) == Some((3, 3, 3)), "logged");
+    assert!(rt;
+        is_told_so(
+            &mut before,
+            "HTTP/1.1 200 OK\r\n",
+            "\r\n\r\n1 waiting\n2 waiting\n3 waiting\nmaintenance none\n"
+        ),
+        "before"
+    );
+    assert!(rt;
+        is_told_so(
+            &mut after,
+            "HTTP/1.1 200 OK\r\n",
+            "\r\n\r\n1 cancelled\n2 waiting\n3 cancelled\nmaintenance none\n"
+        ),
+        "after"
+    );
+    Ok(())
+}
+
+/// The plan accepts one booking; the others were given up, or were refused from the first.
+static GIVEN_UP_BEFORE: [Row; 4] = [
+    (100, 200, 0, false),
+    (100, 200, 2, false),
+    (100, 200, 0, false),
+    (100, 200, 0, false),
+];
+
+#[test]
+fn what_was_given_up_before_a_start_is_told_of_the_day(rt: HostRuntime) -> Result<(), Fail> {
+    let alloc = rt.alloc();
+    let (door, port) = opened(&rt, alloc)?;
+    let mut asking = client(&rt, alloc, port, "GET /outcomes", "\r\n")?;
+    let opened = Opened {
+        channels: ChannelSet::from_numbers(&[1, 2, 3])?,
+        day: Day::new("2026-01-05", "UTC0")?,
+        last: 600,
+        rate: 0,
+        clock: None,
+    };
+    let Some(exchange) = exchange_of(alloc, &GIVEN_UP_BEFORE) else {
+        return Err(Fail::from("no exchange"));
+    };
+    let mut given_up = none_given_up(alloc)?;
+    note(&mut given_up, Amendment::Cancelled, b"1");
+    note(&mut given_up, Amendment::Dropped, b"4");
+    assert!(rt;
+        ran_after(alloc, &door, &opened, exchange, &[], given_up, QUIET) == Some((4, 0, 0)),
+        "nothing is sold"
+    );
+    assert!(rt;
+        is_told_so(
+            &mut asking,
+            "HTTP/1.1 200 OK\r\n",
+            "\r\n\r\n1 cancelled\n2 waiting\n3 refused\n4 dropped\nmaintenance none\n"
+        ),
+        "told"
     );
     Ok(())
 }

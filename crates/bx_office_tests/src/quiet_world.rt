@@ -5,17 +5,16 @@ use bx_devices::WriteFailed;
 use bx_events::LiveEvent;
 use bx_frames::{Frame, LinkFault};
 use bx_live::{Begin, CannotLog, Loss, World};
-use bx_office_door::Door;
+use bx_office_door::{Lends, SharedDoor};
 use bx_q931::Octets;
-use std::cell::RefCell;
 
 /// A second, in nanoseconds.
 const SECOND: u128 = 1_000_000_000;
 
 /// A world that attends this door.
 #[derive(Drop)]
-pub struct QuietWorld<'a> {
-    door: &'a RefCell<Door>,
+pub struct QuietWorld {
+    door: SharedDoor,
     /// How many seconds a second of the day lasts for the clients.
     pace: u32,
     now: u128,
@@ -30,9 +29,9 @@ pub struct QuietWorld<'a> {
     pub synced: u32,
 }
 
-impl<'a> QuietWorld<'a> {
+impl QuietWorld {
     /// A world in which nothing has happened.
-    pub fn new(door: &'a RefCell<Door>, pace: u32) -> Self {
+    pub fn new(door: SharedDoor, pace: u32) -> Self {
         QuietWorld {
             door,
             pace,
@@ -46,16 +45,17 @@ impl<'a> QuietWorld<'a> {
     }
 
     /// Moves what is ready at the door.
-    fn attend(&self) {
-        if let Ok(mut door) = self.door.try_borrow_mut() {
+    fn attend(&mut self) {
+        if let Some(mut door) = self.door.take() {
             for _turn in 0..100u32 {
                 door.attend(self.now, false);
             }
+            self.door.put_back(door);
         }
     }
 }
 
-impl<'a> World for QuietWorld<'a> {
+impl World for QuietWorld {
     ghost did = { λ s acts t. Unit {0} };
 
     fn begin(&mut self, second: u32) -> Begin {

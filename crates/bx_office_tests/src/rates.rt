@@ -6,12 +6,11 @@ use crate::offices::{
 };
 use bx_base::ChannelSet;
 use bx_calendar::Day;
-use bx_office_door::Door;
+use bx_office_door::SharedDoor;
 use bx_office_world::Opened;
+use bx_sales::none_given_up;
 use bx_worked_days::{Row, exchange_of};
 use std::alloc::Global;
-use std::cell::RefCell;
-use std::rc::Rc;
 use std::test::Fail;
 
 /// What an office is opened with at this rate, on a day of 600 seconds.
@@ -26,7 +25,7 @@ fn opened_at(rate: u32) -> Option<Opened> {
 }
 
 /// Runs a day of these bookings for four seconds, with an office at this rate.
-fn ran_at(alloc: Global, door: &Rc<RefCell<Door>>, rows: &[Row], rate: u32) -> Option<Ran> {
+fn ran_at(alloc: Global, door: &SharedDoor, rows: &[Row], rate: u32) -> Option<Ran> {
     let (Some(opened), Some(exchange)) = (opened_at(rate), exchange_of(alloc, rows)) else {
         return None;
     };
@@ -114,8 +113,9 @@ fn what_was_sold_before_a_start_is_told_at_a_higher_rate(rt: HostRuntime) -> Res
         return Err(Fail::from("no exchange"));
     };
     let tags = [Some(TAG), Some(TAG)];
+    let none = none_given_up(alloc)?;
     assert!(rt;
-        ran_after(alloc, &door, &opened, exchange, &tags, QUIET) == Some((4, 0, 0)),
+        ran_after(alloc, &door, &opened, exchange, &tags, none, QUIET) == Some((4, 0, 0)),
         "nothing more is sold"
     );
     assert!(rt;

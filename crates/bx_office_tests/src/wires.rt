@@ -2,11 +2,9 @@
 
 use bx_line_world::Wire;
 use bx_office::Place;
-use bx_office_door::{Door, Listening, OfficeWire};
+use bx_office_door::{Door, Listening, OfficeWire, SharedDoor};
 use std::alloc::Global;
-use std::cell::RefCell;
 use std::net::{Net, TcpListener, TcpStream};
-use std::rc::Rc;
 use std::test::Fail;
 
 /// A wire on which nothing comes, and which keeps how long it was waited for last.
@@ -50,15 +48,15 @@ static WAITS: [Wait; 6] = [
 fn beside<H: Net<Listener = TcpListener, Stream = TcpStream>>(
     rt: &H,
     alloc: Global,
-) -> Result<OfficeWire<QuietWire>, Fail> {
+) -> Result<OfficeWire<QuietWire, SharedDoor>, Fail> {
     let listening = Listening::at_port(rt, 0)?;
     let door = Door::new(alloc, Place::Port(0), listening, 0);
-    let shared = Rc::new(alloc, RefCell::new(door))?;
+    let shared = SharedDoor::new(alloc, door)?;
     Ok(OfficeWire::new(QuietWire { waited: 0 }, shared))
 }
 
 /// How long is waited at once of such a wait.
-fn waited(wire: &mut OfficeWire<QuietWire>, wait: u64) -> u64 {
+fn waited(wire: &mut OfficeWire<QuietWire, SharedDoor>, wait: u64) -> u64 {
     let mut room = [0u8; 16];
     let _none = wire.receive(&mut room, wait);
     wire.wire.waited

@@ -1,11 +1,12 @@
 -- At which seconds a call may start.
-use Rattle.std.proofs.Common.{◌≡◌, ◌≢◌, ◌↔◌, ℕ, zero, suc, ◌+◌, ◌<◌, ◌≤◌, ◌&&◌, Bool, true, false, nat_le, nat_lt, if◌then◌else◌, List, [], ◌∷◌, ◌++◌, length, slice_index_or, slice_set, sym, subst, ap, ◌∙◌, inl, inr, arith}
+use Rattle.std.proofs.Common.{◌≡◌, ◌≢◌, ◌↔◌, ℕ, zero, suc, ◌+◌, ◌<◌, ◌≤◌, ◌&&◌, Bool, true, false, nat_le, nat_lt, if◌then◌else◌, List, [], ◌∷◌, ◌++◌, length, slice_index_or, slice_set, Result, Ok, Err, IfOk, sym, subst, ap, ◌∙◌, inl, inr, arith}
 use Rattle.std.proofs.lemmas.Bool.{true≢false, cases_eq, cases_lt}
 use Rattle.std.proofs.lemmas.Bool.Decides.{nat_tests}
 use Rattle.std.proofs.lemmas.List.{get_or-set_same, get_or-set_other, get_or_past, get_or_push, get_or_append_left}
 use Rattle.bx_base.specs.Bookings.{Row, row_at, is_running}
 use Rattle.bx_base.specs.Channels.{count_of}
 use Rattle.bx_day.specs.Day.{Day}
+use Rattle.bx_sales.specs.Left.{left_in_service}
 use Rattle.bx_office_world.specs.FreeStarts.{running_below, IsWished, IsFreeStart}
 use Rattle.bx_office_world.specs.StartMarks.{AreLoads, IsStartOn, is_marked_at, AreStartMarks}
 use Rattle.bx_office_world.specs.declared.desk.Opened.{Opened}
@@ -96,22 +97,33 @@ all_marked marks counts limit moment last wish lasts size each k = elim (cases_l
 ]
 
 -- what is found by what runs at each second are the free starts
-pub free_start : (opened : Opened) (d : Day) (wish : Wish) (counts : List ℕ) → AreLoads d.entries counts → (k : ℕ) → IsStartOn counts (count_of opened.channels) d.moment opened.last wish k ↔ IsFreeStart opened d wish k
+free_start : (opened : Opened) (d : Day) (wish : Wish) (counts : List ℕ) → AreLoads d (left_in_service opened.channels d) counts → (k : ℕ) → IsStartOn counts (count_of (left_in_service opened.channels d)) d.moment opened.last wish k ↔ IsFreeStart opened d wish k
 free_start opened d wish counts loads k = (there, back)
   where
-    there : IsStartOn counts (count_of opened.channels) d.moment opened.last wish k → IsFreeStart opened d wish k
+    there : IsStartOn counts (count_of (left_in_service opened.channels d)) d.moment opened.last wish k → IsFreeStart opened d wish k
     there s = record {
       wished = s.wished;
       in_day = omega (arith, s.in_day, loads.size);
-      free = λ t ge lt. subst (λ (n : ℕ). n < count_of opened.channels) (loads.each t (omega (arith, lt, s.in_day, loads.size))) (s.free t ge lt);
+      free = λ t ge lt. subst (λ (n : ℕ). n < count_of (left_in_service opened.channels d)) (loads.each t (omega (arith, lt, s.in_day, loads.size))) (s.free t ge lt);
     }
 
-    back : IsFreeStart opened d wish k → IsStartOn counts (count_of opened.channels) d.moment opened.last wish k
+    back : IsFreeStart opened d wish k → IsStartOn counts (count_of (left_in_service opened.channels d)) d.moment opened.last wish k
     back s = record {
       wished = s.wished;
       in_day = omega (arith, s.in_day, loads.size);
-      free = λ t ge lt. subst (λ (n : ℕ). n < count_of opened.channels) (sym (loads.each t (omega (arith, lt, s.in_day)))) (s.free t ge lt);
+      free = λ t ge lt. subst (λ (n : ℕ). n < count_of (left_in_service opened.channels d)) (sym (loads.each t (omega (arith, lt, s.in_day)))) (s.free t ge lt);
     }
 
-pub free_marks : (opened : Opened) (d : Day) (wish : Wish) (counts : List ℕ) (marks : List Bool) → AreLoads d.entries counts → AreStartMarks marks (IsStartOn counts (count_of opened.channels) d.moment opened.last wish) → AreStartMarks marks (IsFreeStart opened d wish)
+free_marks : (opened : Opened) (d : Day) (wish : Wish) (counts : List ℕ) (marks : List Bool) → AreLoads d (left_in_service opened.channels d) counts → AreStartMarks marks (IsStartOn counts (count_of (left_in_service opened.channels d)) d.moment opened.last wish) → AreStartMarks marks (IsFreeStart opened d wish)
 free_marks opened d wish counts marks loads marked k = through (marked k) (free_start opened d wish counts loads k)
+
+-- the same of what is answered, in the words of the code
+pub all_free : {A E : Type 0} (r : Result A E) (marks_in : A → List Bool) (opened : Opened) (d : Day) (wish : Wish) (left : List Bool) (counts seen : List ℕ) (limit moment : ℕ)
+    → left ≡ left_in_service opened.channels d → limit ≡ count_of left → moment ≡ d.moment → seen ≡ counts → AreLoads d left counts
+    → IfOk r (λ a. AreStartMarks (marks_in a) (IsStartOn seen limit moment opened.last wish)) → IfOk r (λ a. AreStartMarks (marks_in a) (IsFreeStart opened d wish))
+all_free (Err fault) marks_in opened d wish left counts seen limit moment left_is limit_is moment_is seen_is loads marked = tt
+all_free (Ok a) marks_in opened d wish left counts seen limit moment left_is limit_is moment_is seen_is loads marked =
+    let on_counts = subst (λ (cs : List ℕ). AreStartMarks (marks_in a) (IsStartOn cs limit moment opened.last wish)) seen_is marked in
+    let below = subst (λ (n : ℕ). AreStartMarks (marks_in a) (IsStartOn counts n moment opened.last wish)) (limit_is ∙ ap count_of left_is) on_counts in
+    let after = subst (λ (n : ℕ). AreStartMarks (marks_in a) (IsStartOn counts (count_of (left_in_service opened.channels d)) n opened.last wish)) moment_is below in
+    free_marks opened d wish counts (marks_in a) (subst (λ (cs : List Bool). AreLoads d cs counts) left_is loads) after

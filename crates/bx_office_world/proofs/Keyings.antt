@@ -5,7 +5,7 @@ use Rattle.std.proofs.Math.Seq.{map-set_same}
 use Rattle.bx_sales.specs.declared.tag.Tag.{Tag}
 use Rattle.bx_office_world.specs.declared.ledger.Keyed.{Keyed}
 use Rattle.bx_office_world.specs.KnownKeys.{keys_in, key_at, KnowsKey}
-use Rattle.bx_office_world.specs.Ledgers.{KeepsKeys}
+use Rattle.bx_office_world.specs.KeysTaken.{KeepsKeys}
 
 pub key_count : (requests : List Keyed) → length (keys_in requests) ≡ length requests
 key_count requests = length-map requests (λ (r : Keyed). r.tag.key)

@@ -9,3 +9,4 @@ mod Once
 mod FreeSeconds
 mod FreeIntervals
 mod Rooms
+pub mod Deals

@@ -3,7 +3,7 @@ use Rattle.std.proofs.Common.{◌≡◌, ◌-◌, ℕ, List, [], ◌∷◌, ◌+
 use Rattle.std.proofs.lemmas.List.{length-append, get_or_append_left, get_or-append_right}
 use Rattle.bx_day.specs.Day.{Day}
 use Rattle.bx_sales.specs.declared.tag.Tag.{Tag}
-use Rattle.bx_market.specs.Deals.{Deal, Ran, Asked, Answered, ToldOfChange}
+use Rattle.bx_market.specs.Deals.{Deal, Ran, Asked, Answered, ToldOfChange, Lost, Moved}
 use Rattle.bx_market.specs.declared.market.Request.{Request}
 use Rattle.bx_office_world.specs.KnownKeys.{key_at, KnowsKey}
 use Rattle.bx_office_world.specs.Keying.{LacksKey, IsKeyPut, IsKeyNew, request_tag, AskOnce}
@@ -35,6 +35,8 @@ none_under (Asked d None ∷ between) e second other after old new rest is known
 none_under (Ran act ∷ between) e second other after old new rest is known = none_under between e second other after old new rest is known
 none_under (Answered answers ∷ between) e second other after old new rest is known = none_under between e second other after old new rest is known
 none_under (ToldOfChange answer ∷ between) e second other after old new rest is known = none_under between e second other after old new rest is known
+none_under (Lost day ∷ between) e second other after old new rest is known = none_under between e second other after old new rest is known
+none_under (Moved day whole ∷ between) e second other after old new rest is known = none_under between e second other after old new rest is known
 
 pub not_two : (before between : List Deal) (d e : Day) (first second : Request) (tag other : Tag) (after : List Deal) (old new : List (List ℕ)) → AskOnce (before ++ Asked d (Some first) ∷ (between ++ Asked e (Some second) ∷ after)) old new
     → request_tag first ≡ Some tag → request_tag second ≡ Some other → tag.key ≡ other.key → ⊥
@@ -46,3 +48,5 @@ not_two (Asked c None ∷ before) between d e first second tag other after old n
 not_two (Ran act ∷ before) between d e first second tag other after old new rest one two same = not_two before between d e first second tag other after old new rest one two same
 not_two (Answered answers ∷ before) between d e first second tag other after old new rest one two same = not_two before between d e first second tag other after old new rest one two same
 not_two (ToldOfChange answer ∷ before) between d e first second tag other after old new rest one two same = not_two before between d e first second tag other after old new rest one two same
+not_two (Lost day ∷ before) between d e first second tag other after old new rest one two same = not_two before between d e first second tag other after old new rest one two same
+not_two (Moved day whole ∷ before) between d e first second tag other after old new rest one two same = not_two before between d e first second tag other after old new rest one two same

@@ -6,7 +6,8 @@ use Rattle.bx_day.specs.Day.{Day}
 use Rattle.bx_office.specs.declared.gate.Route.{Route}
 use Rattle.bx_office_door.specs.Guests.{first_asked}
 use Rattle.bx_office_door.specs.declared.guest.Guest.{Guest}
-use Rattle.bx_office_world.specs.Served.{is_long, has_long, EndsAtLong, IsTurn, IsTurnTaken, IsRequestTaken, AreServed, IsServing}
+use Rattle.bx_office_world.specs.Served.{is_long, has_long, EndsAtLong, IsTurn, IsRequestTaken, AreServed, IsServing}
+use Rattle.bx_office_world.specs.TurnsTaken.{IsTurnTaken}
 use Rattle.bx_office_world.specs.declared.serving.Desk.{Desk}
 use Rattle.bx_office_world.specs.declared.serving.Pending.{Pending}
 

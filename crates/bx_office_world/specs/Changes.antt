@@ -1,4 +1,4 @@
--- Private: what a customer asks for a booking of the day, and what is told of it.
+-- What a customer asks for a booking of the day, and what is told of it.
 use Rattle.std.specs.Prelude.{◌≡◌, ◌⊎◌, ℕ, Bool, true, false, List, [], ◌∷◌, length, codes, Option, Some, None, Result, Ok, Err}
 use Rattle.bx_base.specs.Bookings.{Row}
 use Rattle.bx_book.specs.Rows.{span_of}
@@ -17,7 +17,8 @@ use Rattle.bx_office_door.specs.declared.guest.Guest.{Guest}
 use Rattle.bx_office_world.specs.ChangedTexts.{changed_text}
 use Rattle.bx_office_world.specs.Sold.{is_within}
 use Rattle.bx_office_world.specs.Tariff.{is_paid}
-use Rattle.bx_office_world.specs.Serving.{IsPlain, IsBadBatch, book_status}
+use Rattle.bx_office_world.specs.Serving.{IsPlain, IsToldInLine, IsBadBatch, book_status}
+use Rattle.bx_office_world.specs.Words.{bad_change_line, no_change_line}
 use Rattle.bx_office_world.specs.declared.changes.BadChange.{BadChange}
 use Rattle.bx_office_world.specs.declared.changes.BadChange.TheVariants as bad
 use Rattle.bx_office_world.specs.declared.changes.Changing.{Changing}
@@ -58,7 +59,7 @@ pub record IsChangeFaulted (desk : Desk) (number : ℕ) (old new : List Guest) :
   pub fault : BadChange
   pub read : IsBadChange desk.opened.now client.body.items fault
   pub reply : Reply
-  pub is : IsPlain (bad_status fault) reply
+  pub is : IsToldInLine (bad_status fault) (bad_change_line fault) reply
   pub answered : IsAnswered number reply old new
 
 abbrev pub IsChangeRead : Desk → ℕ → List Guest → List Guest → Option Row → Type 0
@@ -75,17 +76,9 @@ pub record IsTakenChange (number row : ℕ) (is_cancelled : Bool) (changing : Ch
 abbrev pub IsNobody : ℕ → List Guest → List Guest → Type 0
 IsNobody number old new = ((client_of number old ≡ None) × (new ≡ old)) ⊎ IsSentAway number old new
 
-abbrev pub IsCancelTaken : ℕ → ℕ → List Guest → List Guest → Option Changing → Type 0
-IsCancelTaken row number old new None = IsNobody number old new
-IsCancelTaken row number old new (Some changing) = (new ≡ old) × IsTakenChange number row true changing
-
 -- its body says no booking, its client is not there, or it has hung up and is sent away: nothing is changed
 abbrev pub IsChangeHindered : Desk → ℕ → List Guest → List Guest → Type 0
 IsChangeHindered desk number old new = IsChangeRead desk number old new None ⊎ IsNobody number old new
-
-abbrev pub IsChangeTaken : Desk → ℕ → ℕ → List Guest → List Guest → Option (Changing × Row) → Type 0
-IsChangeTaken desk row number old new None = IsChangeHindered desk number old new
-IsChangeTaken desk row number old new (Some next) = (new ≡ old) × IsTakenChange number row false next.0 × IsChangeOf desk number old next.1
 
 -- ---- what is told
 
@@ -98,7 +91,7 @@ abbrev pub IsChangedReply : Changing → Result (Unit {0}) NoChange → Reply �
 IsChangedReply changing (Ok done) reply =
     ((reply.status ≡ statuses.Fine) × (reply.kind ≡ kinds.Csv) × (reply.allowed ≡ methods.Unsaid) × (reply.body.now ≡ changed_text changing.is_cancelled changing.row))
     ⊎ (IsPlain statuses.Unavailable reply × (reply.body.now ≡ codes "Memory: what is changed stands in the plan\n"))
-IsChangedReply changing (Err why) reply = IsPlain (change_status why) reply
+IsChangedReply changing (Err why) reply = IsToldInLine (change_status why) (no_change_line why) reply
 
 -- just the client of this number is told what has become of a change
 pub record IsToldChanged (changing : Changing) (answer : Result (Unit {0}) NoChange) (number : ℕ) (old new : List Guest) : Type 0 where

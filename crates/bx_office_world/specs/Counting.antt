@@ -3,6 +3,8 @@ use Rattle.std.specs.Prelude.{◌≡◌, ◌⊎◌, ℕ, ◌+◌, ◌-◌, ◌/�
 use Rattle.bx_office_world.specs.declared.metrics.Figures.{Figures}
 use Rattle.bx_day_chart.specs.Outages.{noted}
 use Rattle.bx_day_chart.specs.declared.outages.Outage.{Outage}
+use Rattle.bx_events.specs.Events.{LiveEvent, Amended}
+use Rattle.bx_events.specs.declared.amendment.Amendment.TheVariants.{Dropped}
 use Rattle.bx_live.specs.declared.world.Begin.{Begin}
 use Rattle.bx_live.specs.declared.world.Begin.TheVariants as begins
 use Rattle.bx_live.specs.declared.schedule.TheConstants.{SECOND}
@@ -57,6 +59,11 @@ abbrev pub sold_in_batch : ℕ → List Answer → ℕ
 sold_in_batch sold [] = sold
 sold_in_batch sold (answers.Accepted ∷ more) = sold_in_batch (count_one_more sold) more
 sold_in_batch sold (answers.Refused why ∷ more) = sold_in_batch sold more
+
+-- an event by which a booking is given up for want of a channel
+abbrev pub drop_counted : LiveEvent → Figures → Figures
+drop_counted (Amended Dropped line) f = record f { dropped = count_one_more f.dropped }
+drop_counted event f = f
 
 -- whole seconds between two readings of a clock, in nanoseconds
 abbrev pub seconds_since : Option ℕ → ℕ → Option ℕ

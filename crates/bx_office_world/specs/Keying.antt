@@ -2,7 +2,7 @@
 use Rattle.std.specs.Prelude.{◌≡◌, ◌<◌, ℕ, List, [], ◌∷◌, ◌++◌, length, Option, Some, None}
 use Rattle.bx_day.specs.Day.{Day}
 use Rattle.bx_sales.specs.declared.tag.Tag.{Tag}
-use Rattle.bx_market.specs.Deals.{Deal, Ran, Asked, Answered, ToldOfChange}
+use Rattle.bx_market.specs.Deals.{Deal, Ran, Asked, Answered, ToldOfChange, Lost, Moved}
 use Rattle.bx_market.specs.declared.market.Request.{Request}
 use Rattle.bx_market.specs.declared.market.Request.TheVariants.{Sell, Cancel, Change}
 use Rattle.bx_office_world.specs.KnownKeys.{key_at, KnowsKey}
@@ -33,6 +33,8 @@ AskOnce (Asked day None ∷ deals) old new = AskOnce deals old new
 AskOnce (Ran act ∷ deals) old new = AskOnce deals old new
 AskOnce (Answered answers ∷ deals) old new = AskOnce deals old new
 AskOnce (ToldOfChange answer ∷ deals) old new = AskOnce deals old new
+AskOnce (Lost day ∷ deals) old new = AskOnce deals old new
+AskOnce (Moved day whole ∷ deals) old new = AskOnce deals old new
 
 -- so a batch is under no key that was known, and two batches are not under one
 abbrev pub IsSoldOncePerKey : Type 0

@@ -1,5 +1,5 @@
--- Private: what was asked for under keys, and what was told of it.
-use Rattle.std.specs.Prelude.{◌≡◌, ◌==◌, ◌&&◌, ℕ, Bool, List, [], ◌∷◌, map, take, drop, Option, Some, None, slice_index_or, if◌then◌else◌}
+-- What was asked for under keys, and what was told of it.
+use Rattle.std.specs.Prelude.{◌==◌, ◌&&◌, ℕ, Bool, List, [], ◌∷◌, map, take, drop, Option, Some, None, slice_index_or, if◌then◌else◌}
 use Rattle.std.specs.Bool.{beq}
 use Rattle.std.specs.Str.{bytes_eq}
 use Rattle.bx_base.specs.Bookings.{Row}
@@ -11,12 +11,6 @@ use Rattle.bx_sales.specs.declared.tag.Tag.{Tag}
 use Rattle.hex.specs.Hex.{encode_lower}
 use Rattle.sha2.specs.Sha256.{sha256}
 use Rattle.bx_office.specs.declared.client.Client.{Client}
-use Rattle.bx_market.specs.declared.market.Batch.{Batch}
-use Rattle.bx_market.specs.declared.market.Request.{Request}
-use Rattle.bx_office_world.specs.declared.serving.Pending.{Pending}
-use Rattle.bx_office_world.specs.declared.serving.Selling.{Selling}
-use Rattle.bx_office_world.specs.KnownKeys.{KnowsKey}
-use Rattle.bx_office_world.specs.Keying.{IsKeyPut, IsKeyNew, request_tag}
 use Rattle.bx_office_world.specs.Offered.{offered_of}
 use Rattle.bx_office_world.specs.declared.tariff.Terms.{Terms}
 use Rattle.bx_office_world.specs.declared.ledger.Keyed.{Keyed}
@@ -31,18 +25,6 @@ digits_of text = encode_lower (take 16 (sha256 text))
 
 abbrev pub tag_for : List ℕ → List ℕ → Tag
 tag_for key body = record { key = digits_of key; body = digits_of body }
-
-abbrev pub KeepsKeys : List (List ℕ) → List (List ℕ) → Type 0
-KeepsKeys old new = (key : List ℕ) → KnowsKey old key → KnowsKey new key
-
--- what is asked for next is under a key under which nothing was asked for before, and which is put down; or under none
-abbrev pub IsBatchKeyTaken : List (List ℕ) → Option (Selling × Batch) → List (List ℕ) → Type 0
-IsBatchKeyTaken old None new = new ≡ old
-IsBatchKeyTaken old (Some next) new = IsKeyNew old next.1.tag × IsKeyPut old next.1.tag new
-
-abbrev pub IsKeyTaken : List (List ℕ) → Option (Pending × Request) → List (List ℕ) → Type 0
-IsKeyTaken old None new = new ≡ old
-IsKeyTaken old (Some next) new = IsKeyNew old (request_tag next.1) × IsKeyPut old (request_tag next.1) new
 
 -- the key of a client's request, and what it asks for
 abbrev pub tag_by : Option (List ℕ) → List ℕ → Option Tag
@@ -95,8 +77,3 @@ terms_again terms request = terms_then terms request.told
 -- what is told of those of the bookings that are offered by these terms
 abbrev pub answers_again : Keyed → Terms → List Row → List Entry → List Answer
 answers_again request terms wanted entries = told_again request.rows request.told (offered_of terms wanted) entries
-
--- these answers are kept, or memory ran out
-abbrev pub IsKeptTold : List Answer → Told → Type 0
-IsKeptTold answers (told.Answers kept) = kept.items ≡ answers
-IsKeptTold answers (told.Sold count) = Unit {0}

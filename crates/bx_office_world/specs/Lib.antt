@@ -4,6 +4,8 @@ pub mod ChangedTexts
 pub mod Changes
 pub mod Served
 pub mod Counting
+pub mod GivingUp
+pub mod GivingUpInTurn
 pub mod Dealt
 pub mod Uncounted
 pub mod Answers
@@ -25,3 +27,11 @@ pub mod Tariff
 pub mod Sold
 pub mod Offered
 pub mod Tallies
+pub mod Words
+pub mod Counters
+pub mod Offices
+pub mod NextTaken
+pub mod TurnsTaken
+pub mod KeysTaken
+pub mod Lines
+pub mod Seen

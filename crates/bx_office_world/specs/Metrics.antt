@@ -70,6 +70,7 @@ clearings_text counts = codes "# TYPE bx_clearings_received gauge\n# HELP bx_cle
 abbrev pub office_text : Figures → List ℕ
 office_text figures = family_text (codes "# TYPE bx_answers gauge\n# HELP bx_answers Requests that were answered of the day.\nbx_answers ") figures.answers
     ++ family_text (codes "# TYPE bx_bookings_sold gauge\n# HELP bx_bookings_sold Bookings that were sold.\nbx_bookings_sold ") figures.sold
+    ++ family_text (codes "# TYPE bx_bookings_dropped gauge\n# HELP bx_bookings_dropped Bookings that were given up for want of a channel.\nbx_bookings_dropped ") figures.dropped
 
 -- how long ago the journal was brought to the disk, where it was
 abbrev pub sync_text : Option ℕ → List ℕ

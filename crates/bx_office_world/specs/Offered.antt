@@ -1,4 +1,4 @@
--- Private: what is offered of a batch.
+-- What is offered of a batch.
 use Rattle.std.specs.Prelude.{List}
 use Rattle.std.specs.List.{filter}
 use Rattle.bx_base.specs.Bookings.{Row}

@@ -5,7 +5,7 @@ use Rattle.form_urlencoded.specs.Form as form
 use Rattle.bx_base.specs.Bookings.{Row}
 use Rattle.bx_base.specs.PlanParts.{Parts}
 use Rattle.bx_book.specs.Rows.{Span, IsMomentOf, IsTimeFault}
-use Rattle.bx_day.specs.declared.entry.Entry.{Entry}
+use Rattle.bx_day.specs.Day.{Day}
 use Rattle.bx_planner.specs.declared.answer.Quote.{Quote}
 use Rattle.bx_planner.specs.Quotes.{IsQuote, IsNoQuote, with_asked}
 use Rattle.bx_planner.specs.Texts.{quote_text}
@@ -62,15 +62,15 @@ IsNoCallOfQuery query span why = IsNoSecond query (codes "start") span why ⊎ (
 abbrev pub quote_at : ℕ → Row → Quote → Quote
 quote_at rate call quote = record quote { threshold = max quote.threshold (least_pay rate call - 1) }
 
--- what the command says of the call beside the last plan, at this rate
-pub record IsQuoteText (entries : List Entry) (channels : List Bool) (rate : ℕ) (call : Row) (text : List ℕ) : Type 0 where
+-- what the command says of the call beside a plan of all that is promised, on the channels that are left, at this rate
+pub record IsQuoteText (d : Day) (channels : List Bool) (rate : ℕ) (call : Row) (text : List ℕ) : Type 0 where
   pub plan : Parts
-  pub promised : IsPromisedPlan entries channels plan
+  pub promised : IsPromisedPlan d channels plan
   pub quote : Quote
   pub is : IsQuote (with_asked plan.rows call) plan (length plan.rows) quote
   pub are : text ≡ quote_text (quote_at rate call quote)
 
--- why it says nothing: there is no last plan, or no quote beside it
-abbrev pub IsNoQuoteText : List Entry → List Bool → Row → NoAnswer → Type 0
-IsNoQuoteText entries channels call (NoQuoteOf why) = (plan : Parts) × IsPromisedPlan entries channels plan × IsNoQuote plan call why
-IsNoQuoteText entries channels call why = IsNoPromisedPlan entries channels why
+-- why it says nothing: there is no such plan, or no quote beside it
+abbrev pub IsNoQuoteText : Day → List Bool → Row → NoAnswer → Type 0
+IsNoQuoteText d channels call (NoQuoteOf why) = (plan : Parts) × IsPromisedPlan d channels plan × IsNoQuote plan call why
+IsNoQuoteText d channels call why = IsNoPromisedPlan d channels why

@@ -1,4 +1,4 @@
--- Private: who waits at the door is answered, each in its turn.
+-- Who waits at the door is answered, each in its turn.
 use Rattle.std.specs.Prelude.{◌≡◌, ◌⊎◌, ℕ, ◌≤◌, nat_lt, ◌||◌, Bool, true, false, List, [], ◌∷◌, length, Option, Some, None}
 use Rattle.bx_day.specs.Day.{Day}
 use Rattle.bx_market.specs.declared.market.Request.{Request}
@@ -29,10 +29,6 @@ IsRequestTaken desk d number routes.Bookings guests (pending.Sale selling) (requ
 IsRequestTaken desk d number (routes.Cancel row) guests (pending.Change changing) (requests.Cancel wanted) = (wanted ≡ row) × IsTakenChange number row true changing
 IsRequestTaken desk d number (routes.Change row) guests (pending.Change changing) (requests.Change wanted booking) = (wanted ≡ row) × IsTakenChange number row false changing × IsChangeOf desk number guests booking
 IsRequestTaken desk d number route guests who what = ⊥
-
-abbrev pub IsTurnTaken : Desk → List Keyed → Day → ℕ → Route → List Guest → List Guest → Option (Pending × Request) → Type 0
-IsTurnTaken desk requests d number route old new None = IsTurn desk requests d number route old new
-IsTurnTaken desk requests d number route old new (Some next) = (new ≡ old) × IsRequestTaken desk d number route old next.0 next.1
 
 -- ---- all who wait
 

@@ -1,4 +1,4 @@
--- Private: what each is told who waits at the door.
+-- What each is told who waits at the door.
 use Rattle.std.specs.Prelude.{◌≡◌, ◌⊎◌, ℕ, Bool, true, false, List, length, codes, Option, Some, None, IfSome, Vec}
 use Rattle.std.specs.declared.alloc.Global.{Global}
 use Rattle.bx_office_world.specs.Offered.{terms_of, offered_of}
@@ -33,6 +33,7 @@ use Rattle.bx_office_world.specs.Metrics.{metrics_text}
 use Rattle.bx_office_world.specs.Desk.{IsWritten, IsUnanswered}
 use Rattle.bx_office_world.specs.KnownKeys.{keys_in, key_at}
 use Rattle.bx_office_world.specs.Ledgers.{request_at, tag_asked, terms_again, answers_again}
+use Rattle.bx_office_world.specs.Words.{memory_line, book_line, answer_line, other_line}
 use Rattle.bx_office_world.specs.declared.ledger.Keyed.{Keyed}
 use Rattle.bx_office_world.specs.declared.desk.Opened.{Opened}
 use Rattle.bx_office_world.specs.declared.serving.Order.{Order}
@@ -61,10 +62,15 @@ pub record IsPlain (status : Status) (reply : Reply) : Type 0 where
   pub kind : reply.kind ≡ kinds.Text
   pub allowed : reply.allowed ≡ methods.Unsaid
 
--- the client of this number is told such a line, where it is there
-pub record IsRefusing (status : Status) (number : ℕ) (old new : List Guest) : Type 0 where
+-- just this line; or that memory ran out for it
+pub record IsToldInLine (status : Status) (line : List ℕ) (reply : Reply) : Type 0 where
+  pub plain : IsPlain status reply
+  pub says : (reply.body.now ≡ line) ⊎ (reply.body.now ≡ memory_line)
+
+-- the client of this number is told this line, where it is there
+pub record IsRefusing (status : Status) (line : List ℕ) (number : ℕ) (old new : List Guest) : Type 0 where
   pub reply : Reply
-  pub is : IsPlain status reply
+  pub is : IsToldInLine status line reply
   pub answered : IsAnsweredThere number reply old new
 
 -- ---- a request that asks for nothing to be sold
@@ -73,10 +79,10 @@ pub record IsRefusing (status : Status) (number : ℕ) (old new : List Guest) : 
 pub record IsShown (desk : Desk) (d : Day) (query : List ℕ) (route : Route) (reply : Reply) : Type 0 where
   pub status : reply.status ≡ status_at desk.opened.now d desk.figures route
   pub allowed : reply.allowed ≡ methods.Unsaid
-  pub written : IsWritten desk.opened.now d desk.figures (sight_of desk.sight) query route reply.kind reply.body.now
+  pub written : IsWritten desk.opened.now d desk.given_up.items desk.figures (sight_of desk.sight) query route reply.kind reply.body.now
 
 abbrev pub IsReplyTo : Desk → Day → List ℕ → Route → Reply → Type 0
-IsReplyTo desk d query route reply = IsShown desk d query route reply ⊎ ((why : NoAnswer) × IsUnanswered desk.opened.now d query route why × IsPlain (reply_status_of why) reply)
+IsReplyTo desk d query route reply = IsShown desk d query route reply ⊎ ((why : NoAnswer) × IsUnanswered desk.opened.now d query route why × IsToldInLine (reply_status_of why) (answer_line why) reply)
 
 -- just the client of this number is told it
 pub record IsServedThere (desk : Desk) (d : Day) (number : ℕ) (route : Route) (old new : List Guest) : Type 0 where
@@ -113,7 +119,7 @@ pub record IsFaulted (desk : Desk) (number : ℕ) (old new : List Guest) : Type 
   pub fault : BookFault
   pub read : IsBadBatch desk.opened.now client.body.items fault
   pub reply : Reply
-  pub is : IsPlain (book_status fault) reply
+  pub is : IsToldInLine (book_status fault) (book_line fault) reply
   pub answered : IsAnswered number reply old new
 
 abbrev pub IsBatchRead : Desk → ℕ → List Guest → List Guest → Option Order → Type 0
@@ -133,8 +139,8 @@ pub record IsToldSold (terms : Terms) (rows : ℕ) (wanted : List Row) (answers 
 -- Under a key: where the same was asked for, the same is told again, or memory ran out; else that something else was
 abbrev pub IsSameTold : Bool → Terms → Day → Order → Keyed → ℕ → List Guest → List Guest → Type 0
 IsSameTold true terms d batch request number old new =
-    IsToldSold (terms_again terms request) request.rows batch.wanted (answers_again request (terms_again terms request) batch.wanted d.entries) number old new ⊎ IsRefusing statuses.Unavailable number old new
-IsSameTold false terms d batch request number old new = IsRefusing statuses.Unprocessable number old new
+    IsToldSold (terms_again terms request) request.rows batch.wanted (answers_again request (terms_again terms request) batch.wanted d.entries) number old new ⊎ IsRefusing statuses.Unavailable memory_line number old new
+IsSameTold false terms d batch request number old new = IsRefusing statuses.Unprocessable other_line number old new
 
 abbrev pub IsToldAgain : Terms → Day → Tag → Order → Keyed → ℕ → List Guest → List Guest → Type 0
 IsToldAgain terms d tag batch request number old new = IsSameTold (bytes_eq request.tag.body tag.body) terms d batch request number old new
@@ -152,7 +158,7 @@ pub record IsRepeated (desk : Desk) (requests : List Keyed) (d : Day) (number : 
 -- its body has a fault, its client has hung up, it is told again what was told under its key, or there is no memory for its key: nothing is sold
 abbrev pub IsNotSold : Desk → List Keyed → Day → ℕ → List Guest → List Guest → Type 0
 IsNotSold desk requests d number old new =
-    IsBatchRead desk number old new None ⊎ (IsSentAway number old new ⊎ (IsRepeated desk requests d number old new ⊎ IsRefusing statuses.Unavailable number old new))
+    IsBatchRead desk number old new None ⊎ (IsSentAway number old new ⊎ (IsRepeated desk requests d number old new ⊎ IsRefusing statuses.Unavailable memory_line number old new))
 
 -- what is to be sold is of the customer of this number, whose socket was just looked at, under the key of its request
 pub record IsTakenBatch (desk : Desk) (d : Day) (number : ℕ) (guests : List Guest) (selling : Selling) (request : Batch) : Type 0 where
@@ -160,10 +166,6 @@ pub record IsTakenBatch (desk : Desk) (d : Day) (number : ℕ) (guests : List Gu
   pub rows_are : selling.rows ≡ length d.entries
   pub keyed : request.tag ≡ tag_asked (client_of number guests)
   pub batch : IsBatchOf desk number guests selling.wanted request.bookings
-
-abbrev pub IsBatchTaken : Desk → List Keyed → Day → ℕ → List Guest → List Guest → Option (Selling × Batch) → Type 0
-IsBatchTaken desk requests d number old new None = IsNotSold desk requests d number old new
-IsBatchTaken desk requests d number old new (Some next) = (new ≡ old) × IsTakenBatch desk d number old next.0 next.1
 
 -- ---- before the day begins
 

@@ -24,7 +24,7 @@ abbrev pub reason_of : NoSale → List ℕ
 reason_of reasons.Late = codes "Late"
 reason_of reasons.Full = codes "Full"
 reason_of reasons.NoChannel = codes "NoChannel"
-reason_of reasons.OtherChannels = codes "OtherChannels"
+reason_of reasons.TookOver = codes "TookOver"
 reason_of reasons.Memory = codes "Memory"
 
 -- a booking lasts less than three seconds

@@ -2,15 +2,15 @@
 use Rattle.std.specs.Prelude.{◌≡◌, ◌↔◌, ◌<◌, ◌≤◌, ◌+◌, ℕ, Bool, true, false, List, length, slice_index_or, Option}
 use Rattle.bx_base.specs.declared.booking.TheConstants.{MAX_MOMENT}
 use Rattle.bx_calendar.specs.declared.clock.Clock.{Clock}
-use Rattle.bx_day.specs.declared.entry.Entry.{Entry}
+use Rattle.bx_day.specs.Day.{Day}
 use Rattle.bx_office_world.specs.FreeStarts.{promised_at, IsWished}
-use Rattle.bx_office_world.specs.FreeTimes.{Interval, IsIntervalLine}
+use Rattle.bx_office_world.specs.FreeTimes.{IsIntervalLine}
 use Rattle.bx_office_world.specs.declared.wish.Wish.{Wish}
 
 -- what runs at each second of a day
-pub record AreLoads (entries : List Entry) (counts : List ℕ) : Type 0 where
+pub record AreLoads (d : Day) (channels : List Bool) (counts : List ℕ) : Type 0 where
   pub size : length counts ≡ MAX_MOMENT
-  pub each : (second : ℕ) → second < MAX_MOMENT → slice_index_or counts second 0 ≡ promised_at entries second
+  pub each : (second : ℕ) → second < MAX_MOMENT → slice_index_or counts second 0 ≡ promised_at d channels second
 
 pub record IsStartOn (counts : List ℕ) (limit moment last : ℕ) (wish : Wish) (start : ℕ) : Type 0 where
   pub wished : IsWished moment last wish start

@@ -1,4 +1,4 @@
--- Private: how the answers begin that there are.
+-- How the answers begin that there are.
 use Rattle.std.specs.Prelude.{Bool, true, false, Option, Some}
 use Rattle.bx_day.specs.Day.{Day}
 use Rattle.bx_live.specs.declared.world.Begin.{Begin}

@@ -8,6 +8,7 @@ AreUncounted f =
     (f.begun ≡ None)
     × (f.answers ≡ 0)
     × (f.sold ≡ 0)
+    × (f.dropped ≡ 0)
     × (f.alone ≡ 0)
     × (f.late ≡ 0)
     × (f.clearings ≡ replicate 128 0)

@@ -2,13 +2,15 @@
 
 ghost use Rattle.std.specs.Prelude.{◌≡◌, ◌++◌, Some, IfOk, IfErr};
 ghost use Rattle.bx_office_door.specs.Doors.{guests_of};
-ghost use Rattle.bx_office_world.specs.Changes.{IsChangeIn, IsBadChange, bad_status, IsChangeRead, IsCancelTaken, IsChangeTaken, change_status, IsToldChanged};
+ghost use Rattle.bx_office_world.specs.Changes.{IsChangeIn, IsBadChange, bad_status, IsChangeRead, change_status, IsToldChanged};
+ghost use Rattle.bx_office_world.specs.TurnsTaken.{IsCancelTaken, IsChangeTaken};
 ghost use Rattle.bx_office_world.specs.ChangedTexts.{change_word, changed_text};
 
 use crate::desk::Opened;
 use crate::serving::{Desk, book_status, refuse, reply_of};
 use crate::sold::is_within;
 use crate::tariff::is_paid;
+use crate::words::{bad_change_words, no_change_words};
 use bx_base::Booking;
 use bx_book::{BookFault, read_bookings};
 use bx_office::{Kind, Status};
@@ -16,30 +18,25 @@ use bx_office_door::{Customer, Door};
 use bx_sales::NoChange;
 use bx_text::append_decimal;
 use std::alloc::{AllocError, Global};
-use thiserror::Error;
 
 /// A change that is being made: whose it is, of which row of the plan, and whether its booking is given up.
 #[derive(Drop)]
-pub(crate) struct Changing {
+pub struct Changing {
     pub(crate) customer: Customer,
     pub(crate) row: u16,
     pub(crate) is_cancelled: bool,
 }
 
 /// Why a text says no booking that another one may become.
-#[derive(Clone, Copy, Debug, PartialEq, Eq, Error)]
+#[derive(Clone, Copy, Debug, PartialEq, Eq)]
 pub(crate) enum BadChange {
     /// It has a fault.
-    #[error(transparent)]
     Book(BookFault),
     /// It has no booking, or more than one.
-    #[error("not one booking")]
     NotOne,
     /// The booking starts after the last second to which the day is run.
-    #[error("AfterTheDay")]
     AfterTheDay,
     /// The booking pays less than its started minutes have to.
-    #[error("BelowRate")]
     BelowRate,
 }
 
@@ -83,7 +80,7 @@ fn change_status(why: NoChange) -> Status
     match why {
         NoChange::NoBooking => Status::NotFound,
         NoChange::Memory => Status::Unavailable,
-        NoChange::Late | NoChange::NoChannel | NoChange::OtherChannels => Status::Conflict,
+        NoChange::Late | NoChange::NoChannel => Status::Conflict,
     }
 }
 
@@ -95,7 +92,13 @@ fn change_of(alloc: Global, desk: &Desk<'_>, door: &mut Door, number: u64) -> Op
     match change_in(alloc, desk.opened, client.body()) {
         Ok(booking) => Some(booking),
         Err(fault) => {
-            refuse(alloc, door, number, bad_status(fault), fault);
+            refuse(
+                alloc,
+                door,
+                number,
+                bad_status(fault),
+                bad_change_words(fault),
+            );
             None
         }
     }
@@ -169,7 +172,13 @@ pub(crate) fn tell_changed(
 {
     let number = changing.customer.number();
     if let Err(why) = answer {
-        return refuse(alloc, door, number, change_status(why), why);
+        return refuse(
+            alloc,
+            door,
+            number,
+            change_status(why),
+            no_change_words(why),
+        );
     }
     match changed_text(alloc, changing.is_cancelled, changing.row) {
         Ok(text) => door.answer(number, reply_of(Status::Fine, Kind::Csv, &text)),

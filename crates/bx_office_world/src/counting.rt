@@ -1,9 +1,11 @@
 //! What is counted while the day runs.
 
 ghost use Rattle.std.specs.Prelude.{◌≡◌, ◌-◌, ◌/◌, min, option_map};
-ghost use Rattle.bx_office_world.specs.Counting.{begin_counted, is_without_link, cleared_in, cleared, sold_in_batch, seconds_since};
+ghost use Rattle.bx_events.specs.Told.{live_event_of};
+ghost use Rattle.bx_office_world.specs.Counting.{begin_counted, is_without_link, cleared_in, cleared, sold_in_batch, drop_counted, seconds_since};
 
 use crate::metrics::Figures;
+use bx_events::{Amendment, LiveEvent};
 use bx_live::{Begin, SECOND};
 use bx_market::Answer;
 use bx_q931::{Kind, read};
@@ -63,6 +65,15 @@ pub(crate) fn count_sold(figures: &mut Figures, answers: &[Answer])
         if matches!(answer, Answer::Accepted) {
             figures.sold = figures.sold.saturating_add(1);
         }
+    }
+}
+
+/// Counts a booking that is given up for want of a channel, if that is what an event tells.
+pub(crate) fn count_drop(figures: &mut Figures, event: LiveEvent<'_>)
+    ensures { figures.new ≡ drop_counted (live_event_of event.entry) figures.old }
+{
+    if let LiveEvent::Amended(Amendment::Dropped, _) = event {
+        figures.dropped = figures.dropped.saturating_add(1);
     }
 }
 

@@ -19,7 +19,7 @@ use crate::texts::{outcomes_text, records_text};
 use crate::wishing::wish_of;
 use bx_base::ChannelSet;
 use bx_calendar::{Clock, Day};
-use bx_day::Exchange;
+use bx_day::{Exchange, GivenUp};
 use bx_day_chart::DaySight;
 use bx_office::{Kind, Route};
 use std::alloc::Global;
@@ -72,8 +72,8 @@ fn quoted(
     exchange: &Exchange,
     query: &[u8],
 ) -> Result<Vec<u8>, NoAnswer>
-    ensures text { IfOk result (λ text. IsQuoteAnswered opened.now query.now exchange.now.entries text.items) }
-    ensures none { IfErr result (IsQuoteUnanswered opened.now query.now exchange.now.entries) }
+    ensures text { IfOk result (λ text. IsQuoteAnswered opened.now exchange.now query.now text.items) }
+    ensures none { IfErr result (IsQuoteUnanswered opened.now exchange.now query.now) }
 {
     let call = call_of(alloc, query, &opened.day)?;
     match quote_text(alloc, exchange, opened.channels, opened.rate, &call) {
@@ -116,23 +116,25 @@ fn drawn(
     }
 }
 
-/// What stands at a path now, or why nothing does: what its command is refused for (`IsUnanswered`), or memory runs out. Of a path that is not
-/// asked for so nothing.
+/// What stands at a path now, on a day whose bookings were given up so, or why nothing does: what its command is refused for
+/// (`IsUnanswered`), or memory runs out. Of a path that is not asked for so nothing.
 pub fn answer_of(
     alloc: Global,
     opened: &Opened,
     exchange: &Exchange,
+    given_up: &[Option<GivenUp>],
     figures: &Figures,
     sight: &DaySight,
     route: Route,
     query: &[u8],
 ) -> Result<Written, NoAnswer>
-    ensures written { IfOk result (λ w. IsWritten opened.now exchange.now figures.now (sight_of sight.now) query.now route w.kind w.text.items) }
+    ensures written { IfOk result
+        (λ w. IsWritten opened.now exchange.now given_up.now figures.now (sight_of sight.now) query.now route w.kind w.text.items) }
     ensures none { IfErr result (IsUnanswered opened.now exchange.now query.now route) }
 {
     match route {
         Route::Plan => of_kind(Kind::Text, plan_text(alloc, exchange, opened.channels)),
-        Route::Outcomes => of_kind(Kind::Text, outcomes_text(alloc, exchange)),
+        Route::Outcomes => of_kind(Kind::Text, outcomes_text(alloc, exchange, given_up)),
         Route::Records => of_kind(Kind::Csv, records_text(alloc, exchange, opened.clock)),
         Route::Quote => of_kind(Kind::Text, quoted(alloc, opened, exchange, query)),
         Route::Free => of_kind(Kind::Csv, freed(alloc, opened, exchange, query)),

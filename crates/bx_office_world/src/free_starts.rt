@@ -1,4 +1,4 @@
-//! At which seconds a call may start beside all that is promised.
+//! At which seconds a call may start beside all that is promised, on the channels that are left.
 
 ghost use Rattle.std.specs.Prelude.{◌≡◌, ◌↔◌, ◌≤◌, ◌<◌, ◌+◌, ℕ, IsTrue, IfOk, length, slice_index_or, if◌then◌else◌};
 ghost use Rattle.bx_base.specs.Bookings.{is_running};
@@ -8,9 +8,10 @@ ghost use Rattle.bx_office_world.specs.StartMarks.{AreLoads, IsStartOn, AreStart
 
 use crate::desk::Opened;
 use crate::wish::Wish;
-use bx_base::{Booking, Bookings, MAX_MOMENT};
-use bx_day::{Entry, Exchange};
+use bx_base::{Booking, Bookings, ChannelSet, MAX_MOMENT};
+use bx_day::Exchange;
 use bx_market::promised;
+use bx_sales::channels_left;
 use std::alloc::{AllocError, Global};
 
 /// So many zeros.
@@ -45,11 +46,11 @@ fn loads_of(alloc: Global, rows: &Bookings) -> Result<Vec<u16>, AllocError>
     Ok(counts)
 }
 
-/// How many of the promised bookings run at each second of a day.
-fn loads(alloc: Global, entries: &[Entry]) -> Result<Vec<u16>, AllocError>
-    ensures { IfOk result (λ counts. AreLoads entries.now counts.items) }
+/// How many of the promised bookings run at each second of a day, where these channels are left.
+fn loads(alloc: Global, exchange: &Exchange, left: ChannelSet) -> Result<Vec<u16>, AllocError>
+    ensures { IfOk result (λ counts. AreLoads exchange.now left counts.items) }
 {
-    let rows = promised(alloc, entries)?;
+    let rows = promised(alloc, exchange, left)?;
     loads_of(alloc, &rows)
 }
 
@@ -107,7 +108,8 @@ fn starts_on(
     Ok(marks)
 }
 
-/// For each second of the day whether a call may start at it that is wished for, beside all that is promised.
+/// For each second of the day whether a call may start at it that is wished for, beside all that is promised, on the channels
+/// that are left.
 pub(crate) fn free_starts(
     alloc: Global,
     opened: &Opened,
@@ -117,7 +119,8 @@ pub(crate) fn free_starts(
     ensures marks { IfOk result (λ marks. AreStartMarks marks.items (IsFreeStart opened.now exchange.now wish)) }
     ensures size { IfOk result (λ marks. length marks.items ≡ MAX_MOMENT) }
 {
-    let counts = loads(alloc, exchange.entries())?;
-    let limit = u16::from(opened.channels.count());
+    let left = channels_left(exchange, opened.channels);
+    let counts = loads(alloc, exchange, left)?;
+    let limit = u16::from(left.count());
     starts_on(alloc, &counts, limit, exchange.moment(), opened.last, wish)
 }

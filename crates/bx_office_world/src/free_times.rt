@@ -84,9 +84,9 @@ fn push_intervals(text: &mut Vec<u8>, clock: Option<Clock>, marks: &[bool]) -> R
     Ok(())
 }
 
-/// When a call may start that is wished for, beside all that is promised: a header, and a line for each of the first hundred maximal intervals
-/// of such seconds, from the first to the last of them, as the records tell a moment. `OutOfRange` where the clock cannot tell a time, `Memory`
-/// where memory runs out.
+/// When a call may start that is wished for, beside all that is promised, on the channels that are left: a header, and a line for each
+/// of the first hundred maximal intervals of such seconds, from the first to the last of them, as the records tell a moment. `OutOfRange`
+/// where the clock cannot tell a time, `Memory` where memory runs out.
 pub fn free_text(
     alloc: Global,
     opened: &Opened,

@@ -13,7 +13,6 @@ use bx_base::{Booking, Bookings, ChannelSet, Plan};
 use bx_channels::Channel;
 use bx_day::{Entry, Exchange};
 use bx_devices::Watched;
-use bx_market::is_promised;
 use bx_planfile::write_plan;
 use bx_planner::{NoPlan, plan};
 use bx_records::Tally;
@@ -24,7 +23,7 @@ fn last_plan_row(entry: &Entry) -> Booking
     ensures { result ≡ last_plan_row entry.now }
 {
     let booking = entry.booking;
-    if is_promised(entry.standing) {
+    if !entry.standing.is_refused() {
         return booking.as_must();
     }
     let (start, end) = (booking.start(), booking.end());
@@ -64,7 +63,7 @@ fn takes_refused(entries: &[Entry], assigned: &[Option<Channel>]) -> bool
     ensures none { result ≡ false → ¬ TakesRefused entries.now assigned.now }
 {
     for index in 0..entries.len() {
-        if !is_promised(entries[index].standing) && is_accepted(assigned, index) {
+        if entries[index].standing.is_refused() && is_accepted(assigned, index) {
             return true;
         }
     }
@@ -75,7 +74,7 @@ fn takes_refused(entries: &[Entry], assigned: &[Option<Channel>]) -> bool
 fn given(entry: &Entry) -> Option<Channel>
     ensures { result ≡ given entry.now }
 {
-    if is_promised(entry.standing) {
+    if !entry.standing.is_refused() {
         Channel::new(entry.channel)
     } else {
         None
@@ -100,7 +99,7 @@ fn promised_tally(entries: &[Entry]) -> Tally
 {
     let mut tally = Tally::NONE;
     for entry in entries {
-        tally.count(entry, is_promised(entry.standing));
+        tally.count(entry, !entry.standing.is_refused());
     }
     tally
 }

@@ -3,7 +3,8 @@
 ghost use Rattle.std.specs.Prelude.{◌≡◌, ◌⊎◌, ◌<◌, ◌++◌, ◌∷◌, [], length, IfOk, IfSome, IfNone, OnOk, OnErr};
 ghost use Rattle.bx_office_world.specs.KnownKeys.{known_keys, key_at, KnowsKey, KnowsTags, IsFull};
 ghost use Rattle.bx_office_world.specs.Keying.{LacksKey};
-ghost use Rattle.bx_office_world.specs.Ledgers.{digits_of, tag_for, KeepsKeys, is_same_call, bookings_of, answers_by, terms_again, answers_again, IsKeptTold};
+ghost use Rattle.bx_office_world.specs.Ledgers.{digits_of, tag_for, is_same_call, bookings_of, answers_by, terms_again, answers_again};
+ghost use Rattle.bx_office_world.specs.KeysTaken.{KeepsKeys, IsKeptTold};
 
 use crate::sold::offered_of;
 use crate::tariff::Terms;

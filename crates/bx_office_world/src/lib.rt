@@ -2,6 +2,7 @@
 #![tactic(auto)]
 
 mod changes;
+mod counter;
 mod counting;
 mod desk;
 mod drawing;
@@ -24,6 +25,7 @@ mod tariff;
 mod texts;
 mod wish;
 mod wishing;
+mod words;
 mod world;
 
 pub use changes::changed_text;

@@ -28,6 +28,8 @@ pub struct Figures {
     pub answers: u64,
     /// Bookings that were sold.
     pub sold: u64,
+    /// Bookings that were given up, since no channel was left for them.
+    pub dropped: u64,
     /// How many seconds ago the journal was brought to the disk last, where it was.
     pub since_sync: Option<u64>,
     /// For each cause how many messages have come that clear a call with it.
@@ -39,7 +41,7 @@ impl Figures {
     pub fn new() -> Figures
         ensures clearings { result.clearings ≡ replicate 128 0 }
         ensures seconds { (result.begun ≡ None) × (result.alone ≡ 0) × (result.late ≡ 0) }
-        ensures office { (result.answers ≡ 0) × (result.sold ≡ 0) }
+        ensures office { (result.answers ≡ 0) × (result.sold ≡ 0) × (result.dropped ≡ 0) }
         ensures sync { result.since_sync ≡ None }
     {
         Figures {
@@ -48,6 +50,7 @@ impl Figures {
             late: 0,
             answers: 0,
             sold: 0,
+            dropped: 0,
             since_sync: None,
             clearings: [0; 128],
         }
@@ -235,6 +238,11 @@ fn push_office(text: &mut Vec<u8>, figures: &Figures) -> Result<(), AllocError>
         text,
         "# TYPE bx_bookings_sold gauge\n# HELP bx_bookings_sold Bookings that were sold.\nbx_bookings_sold ",
         figures.sold,
+    )?;
+    push_family(
+        text,
+        "# TYPE bx_bookings_dropped gauge\n# HELP bx_bookings_dropped Bookings that were given up for want of a channel.\nbx_bookings_dropped ",
+        figures.dropped,
     )
 }
 

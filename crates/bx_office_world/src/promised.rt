@@ -9,22 +9,25 @@ use bx_base::{ChannelSet, Plan};
 use bx_day::Exchange;
 use bx_market::promised;
 use bx_planner::{NoPlan, plan};
+use bx_sales::channels_left;
 use std::alloc::Global;
 
-/// A best plan of all that is promised, each as a booking that every plan has to hold, with its prices. What is refused has no part in it.
-/// `TooManyMust` where the channels do not carry what is promised, `Memory` where memory runs out.
+/// A best plan of all that is promised, on the channels that are left, each as a booking that every plan has to hold, with its prices.
+/// What is refused has no part in it, nor what has begun on a channel that is in maintenance by now. `TooManyMust` where the channels that
+/// are left do not carry what is promised, `Memory` where memory runs out.
 pub fn promised_plan(
     alloc: Global,
     exchange: &Exchange,
     channels: ChannelSet,
 ) -> Result<Plan, NoAnswer>
-    ensures plan { IfOk result (λ p. IsPromisedPlan exchange.now.entries channels (parts_of p)) }
-    ensures none { IfErr result (IsNoPromisedPlan exchange.now.entries channels) }
+    ensures plan { IfOk result (λ p. IsPromisedPlan exchange.now channels (parts_of p)) }
+    ensures none { IfErr result (IsNoPromisedPlan exchange.now channels) }
 {
-    let Ok(rows) = promised(alloc, exchange.entries()) else {
+    let left = channels_left(exchange, channels);
+    let Ok(rows) = promised(alloc, exchange, left) else {
         return Err(NoAnswer::Memory);
     };
-    match plan(alloc, &rows, channels) {
+    match plan(alloc, &rows, left) {
         Ok(plan) => Ok(plan),
         Err(NoPlan::TooManyMust(moment)) => Err(NoAnswer::TooManyMust(moment)),
         Err(NoPlan::Memory) => Err(NoAnswer::Memory),

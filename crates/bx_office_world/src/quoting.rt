@@ -72,8 +72,9 @@ pub fn call_of(alloc: Global, query: &[u8], day: &Day) -> Result<Booking, NoAnsw
     }
 }
 
-/// What a call would have to pay beside all that is promised, in the lines of `bx quote`: at this rate of each started minute it is taken
-/// above whatever is below its least pay too, where 0 is no rate. The faults are those of `promised_plan`, and `Quote` where there is none.
+/// What a call would have to pay beside all that is promised, on the channels that are left, in the lines of `bx quote`: at this rate of
+/// each started minute it is taken above whatever is below its least pay too, where 0 is no rate. The faults are those of `promised_plan`,
+/// and `Quote` where there is none.
 pub fn quote_text(
     alloc: Global,
     exchange: &Exchange,
@@ -81,8 +82,8 @@ pub fn quote_text(
     rate: u32,
     call: &Booking,
 ) -> Result<Vec<u8>, NoAnswer>
-    ensures text { IfOk result (λ text. IsQuoteText exchange.now.entries channels rate call.now text.items) }
-    ensures none { IfErr result (IsNoQuoteText exchange.now.entries channels call.now) }
+    ensures text { IfOk result (λ text. IsQuoteText exchange.now channels rate call.now text.items) }
+    ensures none { IfErr result (IsNoQuoteText exchange.now channels call.now) }
 {
     let plan = promised_plan(alloc, exchange, channels)?;
     let mut quote = match quote(alloc, &plan, call) {

@@ -6,9 +6,12 @@ ghost use Rattle.bx_office_door.specs.Doors.{guests_of};
 ghost use Rattle.bx_office_world.specs.KnownKeys.{known_keys};
 ghost use Rattle.bx_office_world.specs.Keying.{IsKeyPut};
 ghost use Rattle.bx_office_world.specs.Offered.{terms_of};
-ghost use Rattle.bx_office_world.specs.Ledgers.{tag_asked, IsBatchKeyTaken, IsKeyTaken};
-ghost use Rattle.bx_office_world.specs.Serving.{reply_status_of, book_status, IsRefusing, IsServed, IsBatchIn, IsBadBatch, IsBatchRead, IsToldAgain, IsBatchTaken, IsToldSold, IsPrepared};
-ghost use Rattle.bx_office_world.specs.Served.{is_long, IsTurnTaken, IsServing};
+ghost use Rattle.bx_office_world.specs.Ledgers.{tag_asked};
+ghost use Rattle.bx_office_world.specs.KeysTaken.{IsKeyTaken, IsBatchKeyTaken};
+ghost use Rattle.bx_office_world.specs.Serving.{reply_status_of, book_status, IsRefusing, IsServed, IsBatchIn, IsBadBatch, IsBatchRead, IsToldAgain, IsToldSold, IsPrepared};
+ghost use Rattle.bx_office_world.specs.Lines.{line_by};
+ghost use Rattle.bx_office_world.specs.Served.{is_long, IsServing};
+ghost use Rattle.bx_office_world.specs.TurnsTaken.{IsBatchTaken, IsTurnTaken};
 ghost use Rattle.bx_office_door.specs.Guests.{client_of};
 
 use crate::changes::{Changing, next_cancel, next_change};
@@ -20,9 +23,10 @@ use crate::ledger::{Keyed, Ledger, tag_for};
 use crate::metrics::{Figures, metrics_text};
 use crate::sold::{offered_of, sold_text};
 use crate::tariff::Terms;
+use crate::words::{Words, answer_words, book_words, line_by, plain};
 use bx_base::Bookings;
 use bx_book::{BookFault, read_bookings};
-use bx_day::Exchange;
+use bx_day::{Exchange, GivenUp};
 use bx_day_chart::DaySight;
 use bx_live::Begin;
 use bx_market::{Answer, Batch, Request};
@@ -31,7 +35,6 @@ use bx_office_door::{Customer, Door};
 use bx_planner::NoQuote;
 use bx_sales::Tag;
 use std::alloc::Global;
-use std::fmt::Display;
 
 /// The most requests that are answered at a time.
 const MAX_ANSWERS: u32 = 16;
@@ -42,7 +45,7 @@ const FEW_ROWS: usize = 4_000;
 /// A batch that is being sold: whose it is, whether it is under a key, how many rows the plan has, and all that is wanted, also what is not
 /// offered.
 #[derive(Drop)]
-pub(crate) struct Selling {
+pub struct Selling {
     customer: Customer,
     pub(crate) is_keyed: bool,
     rows: u16,
@@ -51,7 +54,7 @@ pub(crate) struct Selling {
 
 /// Who waits to be told what becomes of what is asked for: of a batch, or of a change.
 #[derive(Drop)]
-pub(crate) enum Pending {
+pub enum Pending {
     Sale(Selling),
     Change(Changing),
 }
@@ -63,12 +66,13 @@ struct Order {
     offered: Bookings,
 }
 
-/// What the office is at: what it was opened with, what was counted, and where there was no link.
+/// What the office is at: what it was opened with, what was counted, where there was no link, and how bookings were given up.
 #[derive(Drop)]
-pub(crate) struct Desk<'a> {
+pub struct Desk<'a> {
     pub(crate) opened: &'a Opened,
     pub(crate) figures: Figures,
     pub(crate) sight: DaySight,
+    pub(crate) given_up: Vec<Option<GivenUp>>,
 }
 
 /// A reply of this kind.
@@ -117,17 +121,11 @@ fn batch_in(alloc: Global, opened: &Opened, text: &[u8]) -> Result<Order, BookFa
 }
 
 /// Answers the client of this number by why there is no answer, in one line.
-pub(crate) fn refuse<F: Display + Drop>(
-    alloc: Global,
-    door: &mut Door,
-    number: u64,
-    status: Status,
-    why: F,
-)
-    ensures { IsRefusing status number (guests_of door.old) (guests_of door.new) }
+pub(crate) fn refuse(alloc: Global, door: &mut Door, number: u64, status: Status, words: Words)
+    ensures { IsRefusing status (line_by words) number (guests_of door.old) (guests_of door.new) }
 {
-    match format!(in alloc; "{why}\n") {
-        Ok(line) => door.answer(number, reply_of(status, Kind::Text, line.as_bytes())),
+    match line_by(alloc, words) {
+        Ok(line) => door.answer(number, reply_of(status, Kind::Text, &line)),
         Err(_) => door.answer(number, reply_of(status, Kind::Text, b"Memory\n")),
     }
 }
@@ -168,6 +166,7 @@ impl Desk<'_> {
         ensures figures { self.new.figures ≡ begin_counted begin self.old.figures }
         ensures outages { IsOutageNoted (is_without_link begin) (moment - 1) self.old.sight.outages.spans.items self.new.sight.outages.spans.items }
         ensures opened { self.new.opened ≡ self.old.opened }
+        ensures given_up { self.new.given_up ≡ self.old.given_up }
     {
         count_begin(&mut self.figures, begin);
         if is_without_link(begin) {
@@ -188,13 +187,14 @@ impl Desk<'_> {
             alloc,
             self.opened,
             exchange,
+            &self.given_up,
             &self.figures,
             &self.sight,
             route,
             client.query(),
         ) {
             Ok(Written { kind, text }) => door.answer(number, reply_of(status, kind, &text)),
-            Err(why) => refuse(alloc, door, number, status_of(why), why),
+            Err(why) => refuse(alloc, door, number, status_of(why), answer_words(why)),
         }
     }
 
@@ -206,7 +206,7 @@ impl Desk<'_> {
         match batch_in(alloc, self.opened, client.body()) {
             Ok(batch) => Some(batch),
             Err(fault) => {
-                refuse(alloc, door, number, book_status(fault), fault);
+                refuse(alloc, door, number, book_status(fault), book_words(fault));
                 None
             }
         }
@@ -226,13 +226,8 @@ impl Desk<'_> {
         ensures { IsToldAgain (terms_of self.now.opened.now) exchange.now tag batch.now request.now number (guests_of door.old) (guests_of door.new) }
     {
         if request.tag.body != tag.body {
-            refuse(
-                alloc,
-                door,
-                number,
-                Status::Unprocessable,
-                "under this key other bookings were asked for",
-            );
+            let words = plain(b"under this key other bookings were asked for");
+            refuse(alloc, door, number, Status::Unprocessable, words);
             return;
         }
         let terms = request.terms(self.opened.terms());
@@ -246,7 +241,7 @@ impl Desk<'_> {
                 &batch.wanted,
                 &answers,
             ),
-            Err(_) => refuse(alloc, door, number, Status::Unavailable, "Memory"),
+            Err(_) => refuse(alloc, door, number, Status::Unavailable, plain(b"Memory")),
         }
     }
 
@@ -280,7 +275,7 @@ impl Desk<'_> {
         let rows = exchange.entries().len() as u16;
         let Order { wanted, offered } = batch;
         if !is_entered(ledger, tag, rows, offered.len()) {
-            refuse(alloc, door, number, Status::Unavailable, "Memory");
+            refuse(alloc, door, number, Status::Unavailable, plain(b"Memory"));
             return None;
         }
         let selling = Selling {

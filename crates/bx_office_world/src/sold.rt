@@ -55,7 +55,7 @@ fn reason_of(why: NoSale) -> &'static [u8]
         NoSale::Late => b"Late",
         NoSale::Full => b"Full",
         NoSale::NoChannel => b"NoChannel",
-        NoSale::OtherChannels => b"OtherChannels",
+        NoSale::TookOver => b"TookOver",
         NoSale::Memory => b"Memory",
     }
 }

@@ -7,18 +7,23 @@ ghost use Rattle.bx_office_world.specs.Answers.{IsNoRecords};
 
 use crate::fault::NoAnswer;
 use bx_calendar::Clock;
-use bx_day::Exchange;
+use bx_day::{Exchange, GivenUp};
 use bx_devices::Watched;
 use bx_records::{RecordsFault, write_records};
 use std::alloc::Global;
 
-/// What has become of each booking so far, as the lines of outcomes of a day. `Memory` where memory runs out.
-pub fn outcomes_text(alloc: Global, exchange: &Exchange) -> Result<Vec<u8>, NoAnswer>
-    ensures text { IfOk result (λ text. text.items ≡ outcomes_text exchange.now) }
+/// What has become of each booking so far, as the lines of outcomes of a day whose bookings were given up so. `Memory` where memory runs
+/// out.
+pub fn outcomes_text(
+    alloc: Global,
+    exchange: &Exchange,
+    given_up: &[Option<GivenUp>],
+) -> Result<Vec<u8>, NoAnswer>
+    ensures text { IfOk result (λ text. text.items ≡ outcomes_text given_up.now exchange.now) }
     ensures none { IfErr result (λ why. why ≡ NoAnswer.Memory) }
 {
     let mut text = Watched::new(Vec::new(alloc));
-    match exchange.write_outcomes(&mut text) {
+    match exchange.write_outcomes(given_up, &mut text) {
         Ok(()) => Ok(text.into_inner()),
         Err(_) => Err(NoAnswer::Memory),
     }

@@ -1,8 +1,6 @@
 use Rattle.std.proofs.Common.{refl, inr, subst, List, ℕ}
-use Rattle.bx_office.specs.declared.reply.Status.{Status}
 use Rattle.bx_office_door.proofs.Standing.{is_there}
 use Rattle.bx_office_world.specs.Changes.{IsChangeIn, IsBadChange}
-use Rattle.bx_office_world.specs.Serving.{IsPlain}
 use Rattle.bx_office_world.proofs.changes.change_of.Goals as goal
 
 pub returns-in-Ok : goal.returns-in-Ok
@@ -22,6 +20,6 @@ returns-in-Err c = inr (record {
   fault = c.in-Err.fault;
   read = subst (λ (text : List ℕ). IsBadChange c.args.desk.now.opened.now text c.in-Err.fault) c.body.ensures c.in-Err.ensures.fault;
   reply = c.refuse.ensures.reply;
-  is = subst (λ (status : Status). IsPlain status c.refuse.ensures.reply) c.bad_status.ensures c.refuse.ensures.is;
+  is = rw (← c.bad_status.ensures, ← c.bad_change_words.ensures) c.refuse.ensures.is;
   answered = is_there c.args.number c.refuse.ensures.reply _ _ c.in_ok-client.client.now c.in_ok-client.ensures c.refuse.ensures.answered;
 })

@@ -10,7 +10,7 @@ returns-in-Ok-quote_lines-clause-text c =
     let quote = c.in-Ok.quote in
     let above : c.max.result ≡ max quote.threshold (least_pay c.args.rate c.args.call.now - 1) =
     c.max.ensures ∙ ap (λ (n : ℕ). max quote.threshold n) (c.saturating_sub-unpaid.ensures ∙ ap (λ (n : ℕ). n - 1) c.least_pay.ensures) in
-    let made : IsQuoteText c.args.exchange.now.entries c.args.channels c.args.rate c.args.call.now c.in-Ok-quote_lines.text.items = record {
+    let made : IsQuoteText c.args.exchange.now c.args.channels c.args.rate c.args.call.now c.in-Ok-quote_lines.text.items = record {
       plan = parts_of c.in_ok-plan.plan;
       promised = c.in_ok-plan.ensures.plan;
       quote = quote;

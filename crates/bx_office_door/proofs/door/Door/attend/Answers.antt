@@ -13,6 +13,7 @@ returns c =
       numbers = attended _ _ _ _ _ _ _ _ c.let_in.ensures.numbers c.go_on.ensures.numbers stay c.go_on.ensures.count c.let_out.ensures.count;
       answers = c.let_out.ensures.others.answers ∙ (c.go_on.ensures.others.answers ∙ c.let_in.ensures.others.answers);
       shown = c.let_out.ensures.others.shown ∙ (c.go_on.ensures.others.shown ∙ c.let_in.ensures.others.shown);
+      heard = c.let_out.ensures.others.heard ∙ (c.go_on.ensures.others.heard ∙ c.let_in.ensures.others.heard);
       opens = c.let_out.ensures.others.opens ∙ (c.go_on.ensures.others.opens ∙ c.let_in.ensures.others.opens);
       figures = c.let_out.ensures.others.figures ∙ (c.go_on.ensures.others.figures ∙ c.let_in.ensures.others.figures);
       early = λ lt. subst (λ (gs : List Guest). first_asked gs ≡ None) (sym c.let_out.ensures.stay)

@@ -20,5 +20,5 @@ loop-guest-preserved c =
     record {
       count = omega (arith, next, c.loop-guest.invariant.count);
       numbers = came_more _ _ _ _ _ _ _ c.loop-guest.invariant.count c.loop-guest.invariant.numbers all c.new-guest.ensures.number next;
-      others = record { answers = c.loop-guest.invariant.others.answers; shown = c.loop-guest.invariant.others.shown; opens = c.loop-guest.invariant.others.opens; figures = c.loop-guest.invariant.others.figures };
+      others = record { answers = c.loop-guest.invariant.others.answers; shown = c.loop-guest.invariant.others.shown; heard = c.loop-guest.invariant.others.heard; opens = c.loop-guest.invariant.others.opens; figures = c.loop-guest.invariant.others.figures };
     }

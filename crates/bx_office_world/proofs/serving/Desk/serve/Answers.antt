@@ -1,7 +1,8 @@
 use Rattle.std.proofs.Common.{◌≡◌, ◌<◌, ◌≤◌, rules, true, false, ◌∙◌, subst, List, length, Some, None}
 use Rattle.bx_office_door.specs.Guests.{first_asked}
 use Rattle.bx_office_world.specs.declared.ledger.Keyed.{Keyed}
-use Rattle.bx_office_world.specs.Served.{is_long, IsTurnTaken}
+use Rattle.bx_office_world.specs.Served.{is_long}
+use Rattle.bx_office_world.specs.TurnsTaken.{IsTurnTaken}
 use Rattle.bx_office_world.proofs.Turns.{SoFar, one_more, not_taken, all_served, next_wanted, long_served, enough_served}
 use Rattle.bx_office_world.proofs.serving.Desk.serve.Goals as goal
 

@@ -1,9 +1,7 @@
 use Rattle.std.proofs.Common.{inl, inr, subst, sym, ◌∙◌, ℕ, List}
 use Rattle.bx_day_chart.specs.Sights.{sight_of}
-use Rattle.bx_office.specs.declared.reply.Status.{Status}
 use Rattle.bx_office_door.proofs.Standing.{is_there}
 use Rattle.bx_office_world.specs.Desk.{IsUnanswered}
-use Rattle.bx_office_world.specs.Serving.{IsPlain}
 use Rattle.bx_office_world.proofs.Replies.{written_as}
 use Rattle.bx_office_world.proofs.serving.Desk.tell.Goals as goal
 
@@ -15,7 +13,7 @@ returns-in-Ok c = inr (record {
   said = inl (record {
     status = c.reply_of.ensures.0 ∙ c.status_at-status.ensures;
     allowed = c.reply_of.ensures.2;
-    written = written_as c.args.self.now.opened.now c.args.exchange.now c.args.self.now.figures (sight_of c.args.self.now.sight) _ _ c.args.route _ _ _ _ c.query.ensures (sym c.reply_of.ensures.1) (sym (c.reply_of.ensures.3 ∙ c.deref.ensures.value)) c.in-Ok.ensures.written;
+    written = written_as c.args.self.now.opened.now c.args.exchange.now _ _ c.args.self.now.figures (sight_of c.args.self.now.sight) _ _ c.args.route _ _ _ _ c.deref.ensures.value c.query.ensures (sym c.reply_of.ensures.1) (sym (c.reply_of.ensures.3 ∙ c.deref-in-Ok.ensures.value)) c.in-Ok.ensures.written;
   });
   answered = is_there c.args.number c.reply_of.result _ _ c.in-Some.client.now c.in-Some.ensures c.answer.ensures.answered;
 })
@@ -28,7 +26,7 @@ returns-in-Err c = inr (record {
   said = inr (
     c.in-Err.why,
     subst (λ (query : List ℕ). IsUnanswered c.args.self.now.opened.now c.args.exchange.now query c.args.route c.in-Err.why) c.query.ensures c.in-Err.ensures.none,
-    subst (λ (status : Status). IsPlain status c.refuse.ensures.reply) c.status_of.ensures c.refuse.ensures.is,
+    rw (← c.status_of.ensures, ← c.answer_words.ensures) c.refuse.ensures.is,
   );
   answered = is_there c.args.number c.refuse.ensures.reply _ _ c.in-Some.client.now c.in-Some.ensures c.refuse.ensures.answered;
 })

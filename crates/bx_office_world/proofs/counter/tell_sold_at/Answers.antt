@@ -1,0 +1,9 @@
+use Rattle.std.proofs.Common.{inr, subst, Option}
+use Rattle.bx_office_door.specs.Lending.{Taken}
+use Rattle.bx_office_door.specs.declared.door.Door.{Door}
+use Rattle.bx_office_world.proofs.counter.tell_sold_at.Goals as goal
+
+pub returns-in-Some : goal.returns-in-Some
+returns-in-Some g c =
+    let taken = subst (λ (d : Option Door). g.S.Lends.lent c.args.holder.now (Taken d) c.take.new.self) c.in-Some.is c.take.ensures in
+    inr (record { before = c.in-Some.door; after = c.tell_sold.new.door; mid = c.take.new.self; taken = taken; used = c.tell_sold.ensures; put_back = c.put_back.ensures })
