@@ -1,7 +1,10 @@
 -- What a status says of the command that was asked for.
-use Rattle.std.specs.Prelude.{◌≡◌, ℕ, Bool, true, false, List, Option, Ok}
+use Rattle.std.specs.Prelude.{◌≡◌, ◌⊎◌, ℕ, Bool, true, false, List, Option, Result, Ok, Err}
+use Rattle.std.specs.Io.KnownBytes.{Appends}
+use Rattle.std.specs.String.{string_bytes}
 use Rattle.bx_devices.specs.Devices.{writing_of}
-use Rattle.bx_devices.specs.Watching.{device_of}
+use Rattle.bx_devices.specs.Octets.{AppendsPrefix}
+use Rattle.bx_devices.specs.Watching.{device_of, is_faulted}
 use Rattle.bx_devices.specs.declared.watched.Watched.{Watched}
 use Rattle.bx_audit.specs.Audits.{IsAuditTold}
 use Rattle.bx_audit.specs.AuditRefusals.{IsAuditRefusal}
@@ -27,8 +30,12 @@ use Rattle.bx_journal_files.specs.Lasting.{does_last}
 use Rattle.bx_journal_files.specs.declared.fault.LiveFault.{LiveFault}
 use Rattle.bx_plan_commands.specs.FileRequests as plans
 use Rattle.bx_plan_commands.specs.declared.fault.FileFault.{FileFault}
+use Rattle.bx_request.specs.Locations.{IsMet, NoFileMeets}
+use Rattle.bx_request.specs.declared.locations.Location.{Location}
 use Rattle.bx_request.specs.declared.request.Request.{Request}
 use Rattle.bx_request.specs.declared.request.Request.TheVariants.{Files, Rehearsal, Far, FarLine, Live, Audit, Records, Sold, DayChart, Decode}
+use Rattle.bx_words.specs.declared.reading.Refusal.{Refusal}
+use Rattle.bx_words.specs.declared.reading.Refusal.TheVariants.{Memory, Help, Wrong}
 
 -- at 0: it is done by a program of such a host, where this was left on standard input
 abbrev pub IsRequestDone : {F W : Type 0} → Type 0 → Option (List ℕ) → Request → (F → Option (List ℕ)) → (W → Option (List ℕ)) → Watched W → Watched W → Type 0
@@ -64,3 +71,35 @@ IsRefusedForGood H _ files contents old new = ⊥
 abbrev pub is_live_day : Request → Bool
 is_live_day (Live request) = true
 is_live_day _ = false
+
+-- ---- what a status says of the answer to the words of the command line
+
+-- at 0
+abbrev pub IsAnswerDone : {F W : Type 0} → Type 0 → (List ℕ → Option Location → Type 0) → Option (List ℕ) → Result Request Refusal → (F → Option (List ℕ)) → (W → Option (List ℕ)) → Watched W → Watched W → Type 0
+IsAnswerDone H tells left (Ok request) files contents old new = NoFileMeets tells request × IsRequestDone H left request files contents old new
+IsAnswerDone H tells left (Err (Help text)) files contents old new = Appends (contents (device_of old)) (contents (device_of new)) (string_bytes text)
+IsAnswerDone H tells left (Err (Wrong text)) files contents old new = ⊥
+IsAnswerDone H tells left (Err Memory) files contents old new = ⊥
+
+-- two files of it are one, of which one would be written, and nothing was done
+abbrev pub AreMet : {W : Type 0} → (List ℕ → Option Location → Type 0) → Request → Watched W → Watched W → Type 0
+AreMet tells request old new = (met : List ℕ) × IsMet tells request met × (new ≡ old)
+
+-- at 1
+abbrev pub IsAnswerRefused : {F W : Type 0} → Type 0 → (List ℕ → Option Location → Type 0) → Option (List ℕ) → Result Request Refusal → (F → Option (List ℕ)) → (W → Option (List ℕ)) → Watched W → Watched W → Type 0
+IsAnswerRefused H tells left (Ok request) files contents old new = (NoFileMeets tells request × IsRequestRefused H left request files contents old new) ⊎ ((is_live_day request ≡ false) × AreMet tells request old new)
+IsAnswerRefused H tells left (Err (Help text)) files contents old new = (is_faulted new ≡ true) × AppendsPrefix (contents (device_of old)) (contents (device_of new)) (string_bytes text)
+IsAnswerRefused H tells left (Err (Wrong text)) files contents old new = ⊥
+IsAnswerRefused H tells left (Err Memory) files contents old new = new ≡ old
+
+-- at 2
+abbrev pub IsAnswerWrong : {W : Type 0} → Result Request Refusal → Watched W → Watched W → Type 0
+IsAnswerWrong (Ok request) old new = ⊥
+IsAnswerWrong (Err (Help text)) old new = ⊥
+IsAnswerWrong (Err (Wrong text)) old new = new ≡ old
+IsAnswerWrong (Err Memory) old new = ⊥
+
+-- at 3
+abbrev pub IsAnswerLost : {F W : Type 0} → Type 0 → (List ℕ → Option Location → Type 0) → Result Request Refusal → (F → Option (List ℕ)) → (W → Option (List ℕ)) → Watched W → Watched W → Type 0
+IsAnswerLost H tells (Ok request) files contents old new = (NoFileMeets tells request × IsRefusedForGood H request files contents old new) ⊎ ((is_live_day request ≡ true) × AreMet tells request old new)
+IsAnswerLost H tells (Err refusal) files contents old new = ⊥

@@ -1,6 +1,6 @@
 //! The command line.
 
-ghost use Rattle.std.specs.Prelude.{◌≡◌, ◌≢◌, ◌≤◌, ◌↔◌, ◌⊎◌, ℕ, List, [], Some, true, false, IsOk, IsErr, OnOk, OnErr, IfErr, if◌then◌else◌};
+ghost use Rattle.std.specs.Prelude.{◌≡◌, ◌≢◌, ◌≤◌, ◌↔◌, ◌⊎◌, ℕ, [], Some, true, Result, IsOk, IsErr, OnOk, OnErr, IfErr, if◌then◌else◌};
 ghost use Rattle.std.specs.Io.KnownBytes.{Appends};
 ghost use Rattle.bx_devices.specs.Devices.{reading_of, writing_of};
 ghost use Rattle.bx_devices.specs.Octets.{AppendsPrefix};
@@ -8,11 +8,12 @@ ghost use Rattle.bx_devices.specs.Watching.{device_of, is_faulted};
 ghost use Rattle.bx_check_commands.specs.Proved.{IsProvedText, proved_line};
 ghost use Rattle.bx_check_commands.specs.Refusals.{IsRefusal};
 ghost use Rattle.bx_check_commands.specs.declared.fault.CommandFault.{CommandFault};
-ghost use Rattle.bx_cli.specs.Statuses.{IsRefusedForGood, IsRequestDone, IsRequestRefused, is_live_day};
+ghost use Rattle.bx_cli.specs.Statuses.{IsAnswerDone, IsAnswerLost, IsAnswerRefused, IsAnswerWrong, IsRefusedForGood, IsRequestDone, IsRequestRefused, is_live_day};
 ghost use Rattle.bx_journal_files.specs.Lasting.{does_last};
-ghost use Rattle.bx_request.specs.Locations.{IsMet, NoFileMeets};
 ghost use Rattle.bx_request.specs.declared.request.Request.{Request};
+ghost use Rattle.bx_words.specs.declared.reading.Refusal.{Refusal};
 
+use crate::reading::ReadsWords;
 use bx_audit::{audit_files, chart_day_files, record_files, sold_files};
 use bx_check_commands::{CommandFault, FilesAndInput, check_self, decode};
 use bx_devices::{Watched, write_octets};
@@ -22,7 +23,7 @@ use bx_live_commands::live_on_files;
 use bx_plan_commands::run_on_files;
 use bx_rehearsal_commands::rehearse_on_files;
 use bx_request::{FileKind, FileUse, Locates, Request, SameFile, met_file, named_files};
-use bx_words::{Refusal, explain_fault, read_words};
+use bx_words::{Refusal, explain_fault};
 use std::alloc::Global;
 use std::fmt::Display;
 use std::fs::Files;
@@ -45,6 +46,7 @@ pub fn main_words<
     H: Files
         + Locks
         + Locates
+        + ReadsWords
         + FileStats
         + AllocGlobal
         + Clock
@@ -70,23 +72,20 @@ pub fn main_words<
     ensures refused { words.now ≡ [] → result ≢ 0 → (result ≡ 1)
         × (fault : CommandFault) × IsRefusal (reading_of R.remaining input.old input.new) (writing_of W.contents output.old output.new) fault }
     ensures status { result ≤ 3 }
-    // With words, 0 says that some command is done, whose files are apart by what the system told before one of them was opened, or that a
-    // text that was asked for was written.
-    ensures words { words.now ≢ [] → result ≡ 0 → ((request : Request) × NoFileMeets (H.tells rt.now) request
-        × IsRequestDone H (R.remaining (device_of input.old)) request H.File.contents W.contents output.old output.new)
-        ⊎ ((text : List ℕ) × Appends (W.contents (device_of output.old)) (W.contents (device_of output.new)) text) }
-    // And 1 says that some command of that kind is refused, or that two of its files are one and nothing was done, or such a text was not
-    // written whole, or nothing was done. Of a live day it is told where a start again may mend it.
-    ensures not_done { words.now ≢ [] → result ≡ 1 → ((request : Request) × NoFileMeets (H.tells rt.now) request
-        × IsRequestRefused H (R.remaining (device_of input.old)) request H.File.contents W.contents output.old output.new)
-        ⊎ ((request : Request) × (met : List ℕ) × IsMet (H.tells rt.now) request met × (is_live_day request ≡ false) × (output.new ≡ output.old))
-        ⊎ ((text : List ℕ) × (is_faulted output.new ≡ true)
-        × AppendsPrefix (W.contents (device_of output.old)) (W.contents (device_of output.new)) text)
-        ⊎ (output.new ≡ output.old) }
-    // And 3 says the same of a live day, where a start again cannot mend it.
-    ensures for_good { words.now ≢ [] → result ≡ 3 → ((request : Request) × NoFileMeets (H.tells rt.now) request
-        × IsRefusedForGood H request H.File.contents W.contents output.old output.new)
-        ⊎ ((request : Request) × (met : List ℕ) × IsMet (H.tells rt.now) request met × (is_live_day request ≡ true) × (output.new ≡ output.old)) }
+    // With words, 0 says that what they ask for is done: a command, whose files are apart by what the system told before one of them was
+    // opened, or just the text of the help was written.
+    ensures words { words.now ≢ [] → result ≡ 0 → (answer : Result Request Refusal) × H.reads words.now answer
+        × IsAnswerDone H (H.tells rt.now) (R.remaining (device_of input.old)) answer H.File.contents W.contents output.old output.new }
+    // And 1 says that the command that they ask for is refused, or that two of its files are one and nothing was done, or that the help was
+    // not written whole, or that memory ran out before anything was done. Of a live day it is told where a start again may mend it.
+    ensures not_done { words.now ≢ [] → result ≡ 1 → (answer : Result Request Refusal) × H.reads words.now answer
+        × IsAnswerRefused H (H.tells rt.now) (R.remaining (device_of input.old)) answer H.File.contents W.contents output.old output.new }
+    // And 2 says that the words are wrong, and nothing was done.
+    ensures wrong { words.now ≢ [] → result ≡ 2 → (answer : Result Request Refusal) × H.reads words.now answer
+        × IsAnswerWrong answer output.old output.new }
+    // And 3 says the same as 1 of a live day, where a start again cannot mend it.
+    ensures for_good { words.now ≢ [] → result ≡ 3 → (answer : Result Request Refusal) × H.reads words.now answer
+        × IsAnswerLost H (H.tells rt.now) answer H.File.contents W.contents output.old output.new }
 {
     if words.is_empty() {
         let alloc = rt.alloc();
@@ -99,7 +98,7 @@ pub fn main_words<
 }
 
 /// Does what words ask for, and answers the status.
-fn run_words<'a, H: Host + Locates, R: Read, W: Write, E: Write>(
+fn run_words<'a, H: Host + Locates + ReadsWords, R: Read, W: Write, E: Write>(
     rt: &'a H,
     words: &'a [&'a str],
     input: &mut Watched<R>,
@@ -108,22 +107,17 @@ fn run_words<'a, H: Host + Locates, R: Read, W: Write, E: Write>(
     is_terminal: bool,
 ) -> u8
     ensures status { result ≤ 3 }
-    ensures done { result ≡ 0 → ((request : Request) × NoFileMeets (H.tells rt.now) request
-        × IsRequestDone H (R.remaining (device_of input.old)) request H.File.contents W.contents output.old output.new)
-        ⊎ ((text : List ℕ) × Appends (W.contents (device_of output.old)) (W.contents (device_of output.new)) text) }
-    ensures not_done { result ≡ 1 → ((request : Request) × NoFileMeets (H.tells rt.now) request
-        × IsRequestRefused H (R.remaining (device_of input.old)) request H.File.contents W.contents output.old output.new)
-        ⊎ ((request : Request) × (met : List ℕ) × IsMet (H.tells rt.now) request met × (is_live_day request ≡ false) × (output.new ≡ output.old))
-        ⊎ ((text : List ℕ) × (is_faulted output.new ≡ true)
-        × AppendsPrefix (W.contents (device_of output.old)) (W.contents (device_of output.new)) text)
-        ⊎ (output.new ≡ output.old) }
-    ensures for_good { result ≡ 3 → ((request : Request) × NoFileMeets (H.tells rt.now) request
-        × IsRefusedForGood H request H.File.contents W.contents output.old output.new)
-        ⊎ ((request : Request) × (met : List ℕ) × IsMet (H.tells rt.now) request met × (is_live_day request ≡ true) × (output.new ≡ output.old)) }
+    ensures done { result ≡ 0 → (answer : Result Request Refusal) × H.reads words.now answer
+        × IsAnswerDone H (H.tells rt.now) (R.remaining (device_of input.old)) answer H.File.contents W.contents output.old output.new }
+    ensures not_done { result ≡ 1 → (answer : Result Request Refusal) × H.reads words.now answer
+        × IsAnswerRefused H (H.tells rt.now) (R.remaining (device_of input.old)) answer H.File.contents W.contents output.old output.new }
+    ensures wrong { result ≡ 2 → (answer : Result Request Refusal) × H.reads words.now answer × IsAnswerWrong answer output.old output.new }
+    ensures for_good { result ≡ 3 → (answer : Result Request Refusal) × H.reads words.now answer
+        × IsAnswerLost H (H.tells rt.now) answer H.File.contents W.contents output.old output.new }
 {
     let alloc = rt.alloc();
     let unread = nothing_read(is_terminal);
-    match read_words(alloc, words) {
+    match rt.read_words(words) {
         Ok(request) => match met_file(rt, &request) {
             None => run(rt, request, input, output, errors, is_terminal),
             Some(name) => files_met(alloc, name, &request, unread, errors),

@@ -2,6 +2,8 @@
 #![tactic(auto)]
 
 #[cfg(test)]
+mod asked_words;
+#[cfg(test)]
 mod audits;
 #[cfg(test)]
 mod broken_outputs;
@@ -26,6 +28,8 @@ mod files;
 #[cfg(test)]
 mod live_days;
 #[cfg(test)]
+mod lost_channels;
+#[cfg(test)]
 mod meanings;
 #[cfg(test)]
 mod notes;
@@ -46,11 +50,15 @@ mod rates;
 #[cfg(test)]
 mod records;
 #[cfg(test)]
+mod refused_words;
+#[cfg(test)]
 mod rehearsals;
 #[cfg(test)]
 mod same_files;
 #[cfg(test)]
 mod sold_days;
+#[cfg(test)]
+mod spelled_requests;
 #[cfg(test)]
 mod standard_input;
 #[cfg(test)]

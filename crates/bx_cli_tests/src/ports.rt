@@ -43,6 +43,10 @@ static SOCKETS: [(&str, &str); 5] = [
     ),
 ];
 
+/// A day that has gone by, with an office in place of an ordinary file. It would end at once, where the words below would wait.
+const OFFICE: &str =
+    "serve @two.txt --live --line 19831:19832 --date 2020-01-01 --journal @new.journal --office @one.csv --turns 130";
+
 /// The first words that are answered otherwise.
 fn first_wrong(rt: &HostRuntime, folder: &str) -> Result<Option<&'static str>, Fail> {
     for (words, fault) in &SOCKETS {
@@ -56,9 +60,10 @@ fn first_wrong(rt: &HostRuntime, folder: &str) -> Result<Option<&'static str>, F
 #[test]
 fn sockets_in_use_and_not(rt: HostRuntime) -> Result<(), Fail> {
     let folder = folder(&rt)?;
+    let refused = (1, "", "bx: F3 CannotListen\n");
+    assert!(rt; does(&rt, &folder, OFFICE, refused)?, "an office");
     let path = format!(in rt.alloc(); "{folder}/left")?;
     let listener = UnixListener::bind(&rt, path.as_str())?;
-    let refused = (1, "", "bx: F3 CannotListen\n");
     assert!(rt;
         does(&rt, &folder, "serve @one.txt --socket @left", refused)?,
         "taken"

@@ -1,3 +1,4 @@
+mod ToldAtDoor
 mod Stopped
 mod LineRuns
 mod SaleStops

@@ -1,88 +1,77 @@
--- Runs over a data link.
-use Rattle.std.proofs.Common.{◌≡◌, ◌∙◌, ℕ, Bool, false, true, is_some, List, Option, Some, None, Result, Ok, Err, OnOk, ap, refl, subst}
+-- Runs over a data link on which nobody asks for anything.
+use Rattle.std.proofs.Common.{◌≡◌, ℕ, Bool, true, is_some, List, Option, Some, None, refl, subst}
 use Rattle.std.specs.Borrow.{Bor}
 use Rattle.bx_day.specs.Day.{Day}
+use Rattle.bx_day.specs.declared.outcome.GivenUp.{GivenUp}
 use Rattle.bx_journal.specs.declared.file.FileDisk.{FileDisk}
 use Rattle.bx_journal.specs.declared.head.Head.{Head}
-use Rattle.bx_line_world.specs.Days.{GoesByLine}
 use Rattle.bx_line_world.specs.Posts.{post_from}
 use Rattle.bx_line_world.specs.Wires.{WireAct}
 use Rattle.bx_line_world.specs.declared.line_world.LineWorld.{LineWorld}
 use Rattle.bx_line_world.proofs.Apart.{starts_apart, lost_before}
 use Rattle.bx_line_world.proofs.Never.{never_ends}
-use Rattle.bx_live.specs.Acts.{Act, ended}
-use Rattle.bx_live.specs.Held.{IsHeldOut, IsHeldRun}
-use Rattle.bx_live.specs.Runs.{Between, Done, Over, IsRun}
-use Rattle.bx_live.specs.Running.{Runs, or_over}
-use Rattle.bx_live.specs.declared.world.CannotLog.{CannotLog}
-use Rattle.bx_live.specs.Chains.{Chain}
-use Rattle.bx_live.specs.Logs.{OnLog}
-use Rattle.bx_live.proofs.Projections.{chain_map}
 use Rattle.bx_live.specs.declared.log.Log.{Log}
 use Rattle.bx_live.specs.declared.schedule.Schedule.{Schedule}
+use Rattle.bx_market.specs.Deals.{Deal, acts_of}
+use Rattle.bx_market.specs.SaleRuns.{IsWholeSaleRun, IsBrokenRun}
 use Rattle.bx_journal_files.specs.Resuming.{IsKeptBy}
-use Rattle.bx_journal_files.proofs.Going.{over_of}
-use Rattle.bx_journal_files.proofs.Unkept.{none_keeps}
-use Rattle.bx_live_commands.specs.LiveRuns.{RunsByLine, StopsByLine}
-use Rattle.bx_live_commands.proofs.Stopped.{stopped_by}
+use Rattle.bx_live_commands.specs.LiveRuns.{deals_by_line, RunsByLine, StopsByLine}
+use Rattle.bx_office_world.specs.GivingUp.{NotesGivenUp}
+use Rattle.bx_live_commands.specs.Unasked.{AskNothing}
+use Rattle.bx_live_commands.proofs.SaleStops.{why_broken, broken_kept}
 
 module _ {W D : Type 0} (did : W → List WireAct → W → Type 0) (holds may_leave : D → List ℕ → Type 0) (moment : D → ℕ) (left_since : D → ℕ → List ℕ → Type 0) (has_failed : D → Bool) where
-  abbrev Goes : LineWorld W D → List Act → LineWorld W D → Type 0
-  Goes = Chain (GoesByLine did holds may_leave moment left_since has_failed)
+  abbrev Dealt : LineWorld W D → List Deal → LineWorld W D → Type 0
+  Dealt = deals_by_line did holds may_leave moment left_since has_failed
 
-  pub by_line : (wire : W) (schedule : Schedule) (kept : Log D) (turns : ℕ) (from to : Day) (old new : LineWorld W D) (done : Result (Unit {0}) CannotLog) → done ≡ Ok tt → old.line.wire ≡ wire → old.schedule ≡ schedule → old.log ≡ kept → old.line.end.network ≡ true → old.line.post ≡ post_from from.moment
-      → (ran : Runs Goes old new (Between from) (or_over (Done to) to done)) → IsHeldRun turns from to ran.acts done
-      → RunsByLine did holds may_leave moment left_since has_failed wire schedule kept turns from to
-  by_line wire schedule kept turns from to old new done is over scheduled by side before ran held = record {
-    acts = ran.acts;
-    old = old;
-    new = new;
-    over = over;
-    scheduled = scheduled;
-    kept_by = by;
-    side = side;
-    told_before = before;
-    went = ran.done;
-    run = subst (λ (r : Result (Unit {0}) CannotLog). IsRun (Between from) ran.acts (or_over (Done to) to r)) is ran.goes;
-    after = held.after;
-    held = held.held;
-    out = subst (λ (r : Result (Unit {0}) CannotLog). OnOk r (ended ran.acts ≡ false → IsHeldOut turns to)) is held.out (never_ends did holds may_leave moment left_since has_failed old new ran.acts ran.done);
-    apart = λ later. starts_apart did holds may_leave moment left_since has_failed old new ran.acts ran.done (lost_before from.moment old.line.post before later);
-  }
+  abbrev RanUnasked : List Bool → LineWorld W D → LineWorld W D → Day → Day → ℕ → List (Option GivenUp) → List (Option GivenUp) → Type 0
+  RanUnasked channels old new from to turns before after = (run : IsWholeSaleRun Dealt channels old new from to turns) × AskNothing run.run.deals × NotesGivenUp (acts_of run.run.deals) before after
 
-  -- a run that is over before its end has a journal
-  pub kept_on : (from to : Day) (kept : Log D) (old new : LineWorld W D) (acts : List Act) (o : Option D) → old.log ≡ kept → kept.disk ≡ o → Goes old acts new → IsRun (Between from) acts (Over to) → is_some o ≡ true
-  kept_on from to kept old new acts (Some disk) by is chain run = refl
-  kept_on from to kept old new acts None by is chain run =
-      let mapped = chain_map (GoesByLine did holds may_leave moment left_since has_failed) (OnLog holds may_leave moment left_since has_failed) (λ w. w.log.disk) (λ s t act p. p.logged) old new acts chain in
-      let start : old.log.disk ≡ None = ap (λ (r : Log D). r.disk) by ∙ is in
-      absurd (over_of (Between from) to acts (none_keeps holds may_leave moment left_since has_failed acts new.log.disk (subst (λ (x : Option D). Chain (OnLog holds may_leave moment left_since has_failed) x acts new.log.disk) start mapped)) run)
+  abbrev BrokeUnasked : List Bool → LineWorld W D → LineWorld W D → Day → ℕ → Type 0
+  BrokeUnasked channels old new from turns = (run : IsBrokenRun Dealt channels old new from turns) × AskNothing run.run.deals
 
-  pub failed_line : (from to : Day) (kept : Log D) (old new : LineWorld W D) (done : Result (Unit {0}) CannotLog) (fault : CannotLog) → done ≡ Err fault → old.log ≡ kept → Runs Goes old new (Between from) (or_over (Done to) to done) → is_some kept.disk ≡ true
-  failed_line from to kept old new done fault is by ran =
-      kept_on from to kept old new ran.acts kept.disk by refl ran.done (subst (λ (r : Result (Unit {0}) CannotLog). IsRun (Between from) ran.acts (or_over (Done to) to r)) is ran.goes)
-
-  -- and its disk has failed
-  pub stopped_line : (wire : W) (schedule : Schedule) (kept : Log D) (from to : Day) (old new : LineWorld W D) (done : Result (Unit {0}) CannotLog) (fault : CannotLog) → done ≡ Err fault → old.line.wire ≡ wire → old.schedule ≡ schedule → old.log ≡ kept
-      → Runs Goes old new (Between from) (or_over (Done to) to done) → StopsByLine did holds may_leave moment left_since has_failed wire schedule kept from
-  stopped_line wire schedule kept from to old new done fault is over scheduled by ran =
-      let run = subst (λ (r : Result (Unit {0}) CannotLog). IsRun (Between from) ran.acts (or_over (Done to) to r)) is ran.goes in
-      let stopped = stopped_by holds may_leave moment left_since has_failed (Between from) to ran.acts old.log.disk new.log.disk (λ none. none) run
-      (chain_map (GoesByLine did holds may_leave moment left_since has_failed) (OnLog holds may_leave moment left_since has_failed) (λ w. w.log.disk) (λ s t act p. p.logged) old new ran.acts ran.done) in
+  pub by_line : (wire : W) (schedule : Schedule) (kept : Log D) (channels : List Bool) (turns : ℕ) (from to : Day) (before after : List (Option GivenUp)) (start old new : LineWorld W D) → start ≡ old → old.line.wire ≡ wire → old.schedule ≡ schedule → old.log ≡ kept → old.line.end.network ≡ true → old.line.post ≡ post_from from.moment
+      → RanUnasked channels start new from to turns before after → RunsByLine did holds may_leave moment left_since has_failed wire schedule kept channels turns from to before after
+  by_line wire schedule kept channels turns from to before after start old new same over scheduled by side told begun =
+      let both = subst (λ (s : LineWorld W D). RanUnasked channels s new from to turns before after) same begun in
+      let acts = acts_of both.0.run.deals in
       record {
-        acts = ran.acts;
         old = old;
         new = new;
         over = over;
         scheduled = scheduled;
         kept_by = by;
-        went = ran.done;
-        to = to;
-        run = run;
+        side = side;
+        told_before = told;
+        leaves = both.0;
+        unasked = both.1;
+        noted = both.2;
+        out = both.0.out (never_ends did holds may_leave moment left_since has_failed old new acts both.0.run.done);
+        apart = λ later. starts_apart did holds may_leave moment left_since has_failed old new acts both.0.run.done (lost_before from.moment old.line.post told later);
+      }
+
+  -- where it is over before its end the journal's disk has failed
+  pub stopped_line : (wire : W) (schedule : Schedule) (kept : Log D) (channels : List Bool) (turns : ℕ) (from : Day) (start old new : LineWorld W D) → start ≡ old → old.line.wire ≡ wire → old.schedule ≡ schedule → old.log ≡ kept
+      → BrokeUnasked channels start new from turns → StopsByLine did holds may_leave moment left_since has_failed wire schedule kept channels turns from
+  stopped_line wire schedule kept channels turns from start old new same over scheduled by begun =
+      let both = subst (λ (s : LineWorld W D). BrokeUnasked channels s new from turns) same begun in
+      let stopped = why_broken did holds may_leave moment left_since has_failed channels old new from turns both.0 in
+      record {
+        old = old;
+        new = new;
+        over = over;
+        scheduled = scheduled;
+        kept_by = by;
+        stops = both.0;
+        unasked = both.1;
         disk = stopped.0;
         disk_is = stopped.1;
         cause = stopped.2;
       }
+
+  -- and there is one
+  pub failed_line : (wire : W) (schedule : Schedule) (kept : Log D) (channels : List Bool) (turns : ℕ) (from : Day) → StopsByLine did holds may_leave moment left_since has_failed wire schedule kept channels turns from → is_some kept.disk ≡ true
+  failed_line wire schedule kept channels turns from stops = broken_kept did holds may_leave moment left_since has_failed channels stops.old stops.new from turns kept kept.disk stops.kept_by refl stops.stops
 
 -- where a log is kept a journal is named
 

@@ -1,8 +1,9 @@
 -- Why a run with sales is over before its end.
 use Rattle.std.proofs.Common.{◌≡◌, ℕ, Bool, true, false, List, [], ◌∷◌, Option, Some, None, Result, Ok, Err, refl, sym, subst, ap, is_some, ◌∙◌}
 use Rattle.bx_day.specs.Day.{Day}
+use Rattle.bx_day.specs.declared.outcome.GivenUp.{GivenUp}
 use Rattle.bx_events.specs.Events.{Amended, OnLink, WithoutLink, HeardByRulesTwo}
-use Rattle.bx_events.specs.declared.amendment.Amendment.TheVariants.{Sold, Cancelled, Changed}
+use Rattle.bx_events.specs.declared.amendment.Amendment.TheVariants.{Sold, Cancelled, Changed, SoldByRulesTwo, Delayed, Dropped as DroppedOne, Out}
 use Rattle.bx_line_world.proofs.Apart.{starts_apart, lost_before}
 use Rattle.bx_line_world.proofs.Never.{never_ends}
 use Rattle.bx_line_world.specs.Days.{GoesByLine}
@@ -20,16 +21,20 @@ use Rattle.bx_live.specs.declared.schedule.Schedule.{Schedule}
 use Rattle.bx_market.specs.declared.market.Answer.{Answer}
 use Rattle.bx_market.specs.declared.market.Request.{Request}
 use Rattle.bx_market.specs.declared.market.Request.TheVariants.{Sell, Cancel, Change}
-use Rattle.bx_market.specs.Deals.{Deal, Ran, Asked, Answered, ToldOfChange, acts_of}
+use Rattle.bx_market.specs.Deals.{Deal, Ran, Asked, Answered, ToldOfChange, Lost, Moved, acts_of}
 use Rattle.bx_sales.specs.declared.changing.NoChange.{NoChange}
 use Rattle.bx_market.specs.SaleRuns.{IsSaleRun, IsWholeSaleRun, IsBrokenRun}
-use Rattle.bx_market.specs.Stands.{Stand, Within, Filing, Telling, Changing, Noted, Kept, GoesByDeal, IsMarketRun}
+use Rattle.bx_market.specs.Stands.{Stand, Within, Filing, Telling, Changing, Noted, Kept, Leaving, Left, GoesByDeal, IsMarketRun}
 use Rattle.bx_office_door.specs.declared.wire.OfficeWire.{OfficeWire}
 use Rattle.bx_world.proofs.Kept.{Stops, stops}
 use Rattle.bx_journal_files.proofs.Going.{IsOver, GoesOn, goes_on}
 use Rattle.bx_live_commands.proofs.Stopped.{Stopped, refused, unsynced}
 use Rattle.bx_journal_files.proofs.Unkept.{none_on}
-use Rattle.bx_live_commands.specs.OfficeRuns.{did_at_door, deals_by_line, SellsByLine, StopsSelling}
+use Rattle.bx_office_door.specs.Lending.{Lending}
+use Rattle.bx_office_world.specs.GivingUp.{NotesGivenUp}
+use Rattle.bx_live_commands.specs.LiveRuns.{deals_by_line}
+use Rattle.bx_live_commands.specs.OfficeRuns.{did_at_door, deals_at_door, IsToldAtDoor, SellsByLine, StopsSelling}
+use Rattle.bx_live_commands.specs.declared.by_office.Premises.{Premises}
 
 -- nothing more is done there
 abbrev IsOverAt : Stand → Type 0
@@ -39,6 +44,8 @@ IsOverAt (Telling shown d tag batch sold) = ⊥
 IsOverAt (Changing shown request) = ⊥
 IsOverAt (Noted shown d request) = ⊥
 IsOverAt (Kept shown d request) = ⊥
+IsOverAt (Leaving shown d) = ⊥
+IsOverAt (Left shown d) = ⊥
 
 abbrev Fails : Act → Stand → Type 0
 Fails (Logged event false) to = (d : Day) × (to ≡ Within (Over d))
@@ -68,6 +75,8 @@ module _ (channels : List Bool) where
   over_none d (Asked shown batch ∷ deals) to (mid, goes, rest) = absurd goes
   over_none d (Answered answers ∷ deals) to (mid, goes, rest) = absurd goes
   over_none d (ToldOfChange answer ∷ deals) to (mid, goes, rest) = absurd goes
+  over_none d (Lost shown ∷ deals) to (mid, goes, rest) = absurd goes
+  over_none d (Moved now whole ∷ deals) to (mid, goes, rest) = absurd goes
   over_none d (act ∷ deals) to (mid, (due, same), rest) = absurd due
 
   -- what cannot be logged, or on the disk, is the last act
@@ -76,6 +85,10 @@ module _ (channels : List Bool) where
   fails_at (Filing shown d tag batch sold) (Logged (Amended Sold line) false) to goes = (d, goes)
   fails_at (Filing shown d tag batch sold) (Logged (Amended Cancelled line) done) to goes = absurd goes
   fails_at (Filing shown d tag batch sold) (Logged (Amended Changed line) done) to goes = absurd goes
+  fails_at (Filing shown d tag batch sold) (Logged (Amended SoldByRulesTwo line) done) to goes = absurd goes
+  fails_at (Filing shown d tag batch sold) (Logged (Amended Delayed line) done) to goes = absurd goes
+  fails_at (Filing shown d tag batch sold) (Logged (Amended DroppedOne line) done) to goes = absurd goes
+  fails_at (Filing shown d tag batch sold) (Logged (Amended Out line) done) to goes = absurd goes
   fails_at (Filing shown d tag batch sold) (Logged (OnLink event) done) to goes = absurd goes
   fails_at (Filing shown d tag batch sold) (Logged (WithoutLink rules) done) to goes = absurd goes
   fails_at (Filing shown d tag batch sold) (Logged (HeardByRulesTwo octets) done) to goes = absurd goes
@@ -91,6 +104,13 @@ module _ (channels : List Bool) where
   fails_at (Noted shown d request) (Logged event false) to goes = absurd goes
   fails_at (Kept shown d request) (Logged event false) to goes = absurd goes
   fails_at (Kept shown d request) (Synced false) to goes = absurd goes
+  fails_at (Leaving shown d) (Logged (Amended kind line) false) to goes = (d, goes)
+  fails_at (Leaving shown d) (Logged (OnLink event) done) to goes = absurd goes
+  fails_at (Leaving shown d) (Logged (WithoutLink rules) done) to goes = absurd goes
+  fails_at (Leaving shown d) (Logged (HeardByRulesTwo octets) done) to goes = absurd goes
+  fails_at (Leaving shown d) (Synced false) to goes = (d, goes)
+  fails_at (Left shown d) (Logged event false) to goes = absurd goes
+  fails_at (Left shown d) (Synced false) to goes = absurd goes
   fails_at p act to goes = tt
 
   -- after any other the run goes on
@@ -104,6 +124,10 @@ module _ (channels : List Bool) where
   goes_on_at (Changing shown request) (Logged (Amended kind line) false) to goes = tt
   goes_on_at (Noted shown d request) (Synced true) to goes = λ over. subst IsOverAt goes over
   goes_on_at (Noted shown d request) (Synced false) to goes = tt
+  goes_on_at (Leaving shown d) (Logged (Amended kind line) true) to (d1, is, step, same) = λ over. subst IsOverAt same over
+  goes_on_at (Leaving shown d) (Logged (Amended kind line) false) to goes = tt
+  goes_on_at (Leaving shown d) (Synced true) to goes = λ over. subst IsOverAt goes over
+  goes_on_at (Leaving shown d) (Synced false) to goes = tt
   goes_on_at p act to goes = absurd goes
 
   asked_on : (p : Stand) (shown : Day) (request : Option Request) (to : Stand) → GoesByDeal channels p (Asked shown request) to → IsOverAt to → ⊥
@@ -124,6 +148,14 @@ module _ (channels : List Bool) where
   change_told_on (Kept shown d request) (Ok done) to same over = subst IsOverAt same over
   change_told_on p answer to goes over = goes
 
+  lost_on : (p : Stand) (shown : Day) (to : Stand) → GoesByDeal channels p (Lost shown) to → IsOverAt to → ⊥
+  lost_on (Within (Between d)) shown to (is, same) over = subst IsOverAt same over
+  lost_on p shown to goes over = goes
+
+  moved_on : (p : Stand) (now : Day) (whole : Bool) (to : Stand) → GoesByDeal channels p (Moved now whole) to → IsOverAt to → ⊥
+  moved_on (Left shown d) now whole to (is, left, same) over = subst IsOverAt same over
+  moved_on p now whole to goes over = goes
+
   module _ {D : Type 0} (holds may_leave : D → List ℕ → Type 0) (moment : D → ℕ) (left_since : D → ℕ → List ℕ → Type 0) (has_failed : D → Bool) where
     abbrev OnItsLog : Option D → Act → Option D → Type 0
     OnItsLog = OnLog holds may_leave moment left_since has_failed
@@ -136,6 +168,8 @@ module _ (channels : List Bool) where
     stopped_sale p d (Asked shown batch ∷ deals) o after going (mid, goes, rest) chain = stopped_sale mid d deals o after (asked_on p shown batch mid goes) rest chain
     stopped_sale p d (Answered answers ∷ deals) o after going (mid, goes, rest) chain = stopped_sale mid d deals o after (answered_on p answers mid goes) rest chain
     stopped_sale p d (ToldOfChange answer ∷ deals) o after going (mid, goes, rest) chain = stopped_sale mid d deals o after (change_told_on p answer mid goes) rest chain
+    stopped_sale p d (Lost shown ∷ deals) o after going (mid, goes, rest) chain = stopped_sale mid d deals o after (lost_on p shown mid goes) rest chain
+    stopped_sale p d (Moved now whole ∷ deals) o after going (mid, goes, rest) chain = stopped_sale mid d deals o after (moved_on p now whole mid goes) rest chain
     stopped_sale p d (Ran (Logged event false) ∷ deals) o after going (mid, goes, rest) chain =
         let f = fails_at p (Logged event false) mid goes in
         let none = over_none f.0 deals (Within (Over d)) (subst (λ (s : Stand). IsMarketRun channels s deals (Within (Over d))) f.1 rest) in
@@ -161,61 +195,82 @@ sale_ok {dealt = dealt} {channels = channels} {old = old} {new = new} {d = d} {d
 pub sale_err : {W : Type 0} {dealt : W → List Deal → W → Type 0} {channels : List Bool} {old new : W} {d : Day} {last : ℕ} {r : Result (Unit {0}) CannotLog} {fault : CannotLog} (d1 : Day) → r ≡ Err fault → IsSaleRun dealt channels old new d d1 last r → IsBrokenRun dealt channels old new d last
 sale_err {dealt = dealt} {channels = channels} {old = old} {new = new} {d = d} {last = last} d1 is run = subst (λ (r : Result (Unit {0}) CannotLog). IsSaleRun dealt channels old new d d1 last r) is run
 
+-- ---- over a data link
+
+module _ {W D : Type 0} (did : W → List WireAct → W → Type 0) (holds may_leave : D → List ℕ → Type 0) (moment : D → ℕ) (left_since : D → ℕ → List ℕ → Type 0) (has_failed : D → Bool) (channels : List Bool) (old new : LineWorld W D) (from : Day) (last : ℕ) where
+  abbrev Breaks : Type 0
+  Breaks = IsBrokenRun (deals_by_line did holds may_leave moment left_since has_failed) channels old new from last
+
+  on_disk : (acts : List Act) → Chain (GoesByLine did holds may_leave moment left_since has_failed) old acts new → Chain (OnLog holds may_leave moment left_since has_failed) old.log.disk acts new.log.disk
+  on_disk acts chain = chain_map (GoesByLine did holds may_leave moment left_since has_failed) (OnLog holds may_leave moment left_since has_failed) (λ w. w.log.disk) (λ s t act p. p.logged) old new acts chain
+
+  -- why a run is over before its end
+  pub why_broken : (run : Breaks) → Stopped holds may_leave moment left_since has_failed (acts_of run.run.deals) new.log.disk
+  why_broken run = stopped_sale channels holds may_leave moment left_since has_failed (Within (Between from)) run.over run.run.deals old.log.disk new.log.disk (λ none. none) run.run.goes (on_disk (acts_of run.run.deals) run.run.done)
+
+  -- it has a journal
+  pub broken_kept : (kept : Log D) (o : Option D) → old.log ≡ kept → kept.disk ≡ o → Breaks → is_some o ≡ true
+  broken_kept kept (Some disk) by is run = refl
+  broken_kept kept None by is run =
+      let start : old.log.disk ≡ None = ap (λ (r : Log D). r.disk) by ∙ is in
+      let acts = acts_of run.run.deals in
+      let none = none_on holds may_leave moment left_since has_failed acts new.log.disk (subst (λ (x : Option D). Chain (OnLog holds may_leave moment left_since has_failed) x acts new.log.disk) start (on_disk acts run.run.done)) in
+      let some = (why_broken run).1 in
+      absurd cc
+
 -- ---- over a data link, with the door beside its wire
 
-module _ {W D : Type 0} (did : W → List WireAct → W → Type 0) (holds may_leave : D → List ℕ → Type 0) (moment : D → ℕ) (left_since : D → ℕ → List ℕ → Type 0) (has_failed : D → Bool) where
+module _ {W D S : Type 0} (did : W → List WireAct → W → Type 0) (lent : S → Lending → S → Type 0) (holds may_leave : D → List ℕ → Type 0) (moment : D → ℕ) (left_since : D → ℕ → List ℕ → Type 0) (has_failed : D → Bool) where
   abbrev Office : Type 0
-  Office = LineWorld (OfficeWire W) D
-
-  abbrev GoesAtDoor : Office → Act → Office → Type 0
-  GoesAtDoor = GoesByLine (did_at_door did) holds may_leave moment left_since has_failed
+  Office = LineWorld (OfficeWire W S) D
 
   abbrev Dealt : Office → List Deal → Office → Type 0
-  Dealt = deals_by_line did holds may_leave moment left_since has_failed
+  Dealt = deals_at_door did lent holds may_leave moment left_since has_failed
 
-  pub sells_by : (wire : W) (schedule : Schedule) (kept : Log D) (channels : List Bool) (turns : ℕ) (from to : Day) (start old new : Office) → start ≡ old → old.line.wire.wire ≡ wire → old.schedule ≡ schedule → old.log ≡ kept → old.line.end.network ≡ true → old.line.post ≡ post_from from.moment
-      → IsWholeSaleRun Dealt channels start new from to turns → SellsByLine did holds may_leave moment left_since has_failed wire schedule kept channels turns from to
-  sells_by wire schedule kept channels turns from to start old new same over scheduled by side before begun =
-      let ran = subst (λ (s : Office). IsWholeSaleRun Dealt channels s new from to turns) same begun in
+  pub sells_by : (wire : W) (schedule : Schedule) (kept : Log D) (premises : Premises S) (turns : ℕ) (from to : Day) (before after : List (Option GivenUp)) (start old new : Office) → start ≡ old → old.line.wire.wire ≡ wire → old.line.wire.door ≡ premises.beside → old.line.wire.shown ≡ 0 → old.line.wire.heard ≡ None → old.schedule ≡ schedule → old.log ≡ kept → old.line.end.network ≡ true → old.line.post ≡ post_from from.moment
+      → ((run : IsWholeSaleRun Dealt premises.channels start new from to turns) × IsToldAtDoor lent premises turns run.run.deals × NotesGivenUp (acts_of run.run.deals) before after)
+      → SellsByLine did lent holds may_leave moment left_since has_failed wire schedule kept premises turns from to before after
+  sells_by wire schedule kept premises turns from to before after start old new same over beside unshown unheard scheduled by side told begun =
+      let both = subst (λ (s : Office). (run : IsWholeSaleRun Dealt premises.channels s new from to turns) × IsToldAtDoor lent premises turns run.run.deals × NotesGivenUp (acts_of run.run.deals) before after) same begun in
       record {
         old = old;
         new = new;
         over = over;
+        beside = beside;
+        unshown = unshown;
+        unheard = unheard;
         scheduled = scheduled;
         kept_by = by;
         side = side;
-        told_before = before;
-        sells = ran;
-        out = ran.out (never_ends (did_at_door did) holds may_leave moment left_since has_failed old new (acts_of ran.run.deals) ran.run.done);
-        apart = λ later. starts_apart (did_at_door did) holds may_leave moment left_since has_failed old new (acts_of ran.run.deals) ran.run.done (lost_before from.moment old.line.post before later);
+        told_before = told;
+        sells = both.0;
+        told = both.1;
+        noted = both.2;
+        out = both.0.out (never_ends (did_at_door did lent) holds may_leave moment left_since has_failed old new (acts_of both.0.run.deals) both.0.run.done);
+        apart = λ later. starts_apart (did_at_door did lent) holds may_leave moment left_since has_failed old new (acts_of both.0.run.deals) both.0.run.done (lost_before from.moment old.line.post told later);
       }
 
-  on_disk : (old new : Office) (acts : List Act) → Chain GoesAtDoor old acts new → Chain (OnLog holds may_leave moment left_since has_failed) old.log.disk acts new.log.disk
-  on_disk old new acts chain = chain_map GoesAtDoor (OnLog holds may_leave moment left_since has_failed) (λ w. w.log.disk) (λ s t act p. p.logged) old new acts chain
-
-  pub stops_by : (wire : W) (schedule : Schedule) (kept : Log D) (channels : List Bool) (turns : ℕ) (from : Day) (start old new : Office) → start ≡ old → old.line.wire.wire ≡ wire → old.schedule ≡ schedule → old.log ≡ kept
-      → IsBrokenRun Dealt channels start new from turns → StopsSelling did holds may_leave moment left_since has_failed wire schedule kept channels turns from
-  stops_by wire schedule kept channels turns from start old new same over scheduled by begun =
-      let ran = subst (λ (s : Office). IsBrokenRun Dealt channels s new from turns) same begun in
-      let stopped = stopped_sale channels holds may_leave moment left_since has_failed (Within (Between from)) ran.over ran.run.deals old.log.disk new.log.disk (λ none. none) ran.run.goes (on_disk old new (acts_of ran.run.deals) ran.run.done) in
+  pub stops_by : (wire : W) (schedule : Schedule) (kept : Log D) (premises : Premises S) (turns : ℕ) (from : Day) (start old new : Office) → start ≡ old → old.line.wire.wire ≡ wire → old.line.wire.door ≡ premises.beside → old.line.wire.shown ≡ 0 → old.line.wire.heard ≡ None → old.schedule ≡ schedule → old.log ≡ kept
+      → ((run : IsBrokenRun Dealt premises.channels start new from turns) × IsToldAtDoor lent premises turns run.run.deals) → StopsSelling did lent holds may_leave moment left_since has_failed wire schedule kept premises turns from
+  stops_by wire schedule kept premises turns from start old new same over beside unshown unheard scheduled by begun =
+      let both = subst (λ (s : Office). (run : IsBrokenRun Dealt premises.channels s new from turns) × IsToldAtDoor lent premises turns run.run.deals) same begun in
+      let stopped = why_broken (did_at_door did lent) holds may_leave moment left_since has_failed premises.channels old new from turns both.0 in
       record {
         old = old;
         new = new;
         over = over;
+        beside = beside;
+        unshown = unshown;
+        unheard = unheard;
         scheduled = scheduled;
         kept_by = by;
-        stops = ran;
+        stops = both.0;
+        told = both.1;
         disk = stopped.0;
         disk_is = stopped.1;
         cause = stopped.2;
       }
 
   -- a run that is over before its end has a journal
-  pub selling_kept : (wire : W) (schedule : Schedule) (kept : Log D) (channels : List Bool) (turns : ℕ) (from : Day) (o : Option D) → kept.disk ≡ o → StopsSelling did holds may_leave moment left_since has_failed wire schedule kept channels turns from → is_some o ≡ true
-  selling_kept wire schedule kept channels turns from (Some disk) is stops = refl
-  selling_kept wire schedule kept channels turns from None is stops =
-      let start : stops.old.log.disk ≡ None = ap (λ (r : Log D). r.disk) stops.kept_by ∙ is in
-      let none = none_on holds may_leave moment left_since has_failed (acts_of stops.stops.run.deals) stops.new.log.disk
-      (subst (λ (x : Option D). Chain (OnLog holds may_leave moment left_since has_failed) x (acts_of stops.stops.run.deals) stops.new.log.disk) start (on_disk stops.old stops.new (acts_of stops.stops.run.deals) stops.stops.run.done)) in
-      let some = stops.disk_is in
-      absurd cc
+  pub selling_kept : (wire : W) (schedule : Schedule) (kept : Log D) (premises : Premises S) (turns : ℕ) (from : Day) (o : Option D) → kept.disk ≡ o → StopsSelling did lent holds may_leave moment left_since has_failed wire schedule kept premises turns from → is_some o ≡ true
+  selling_kept wire schedule kept premises turns from o is stops = broken_kept (did_at_door did lent) holds may_leave moment left_since has_failed premises.channels stops.old stops.new from turns kept o stops.kept_by is stops.stops

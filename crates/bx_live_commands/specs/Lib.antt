@@ -1,9 +1,11 @@
 pub mod Heads
+pub mod Unasked
+pub mod UnaskedDeals
 pub mod LiveRuns
 pub mod OfficeRuns
-pub mod FirstFits
 pub mod LiveDays
 pub mod LiveInside
 pub mod DoorWatches
+pub mod Watches
 pub mod OfficePlaces
 pub mod LiveRefusals

@@ -2,13 +2,12 @@
 use Rattle.std.specs.Prelude.{◌≡◌, ◌⊎◌, ℕ, true, List, Option}
 use Rattle.bx_check_commands.specs.declared.fault.CommandFault.TheVariants.{CannotWrite, Memory}
 use Rattle.bx_day_openings.specs.Hours.{IsNoHours}
-use Rattle.bx_day_openings.specs.OpeningRefusals.{IsUnheard, IsNoLine}
+use Rattle.bx_day_openings.specs.OpeningRefusals.{IsNoOpening, IsUnheard, IsNoLine}
 use Rattle.bx_day_openings.specs.declared.fault.DayCommandFault.{DayCommandFault}
 use Rattle.bx_day_openings.specs.declared.fault.DayCommandFault.TheVariants.{Command}
 use Rattle.bx_devices.specs.Watching.{device_of, is_faulted}
 use Rattle.bx_devices.specs.declared.watched.Watched.{Watched}
 use Rattle.bx_request.specs.declared.request.LiveRequest.{LiveRequest}
-use Rattle.bx_live_commands.specs.FirstFits.{IsNoFirstFitOpening}
 use Rattle.bx_live_commands.specs.Heads.{live_head}
 use Rattle.bx_live_commands.specs.LiveDays.{IsAtHand, IsLiveCut, IsLiveStopped, IsLiveUp, has_office}
 use Rattle.bx_journal_files.specs.OpeningFaults.{OfOpening, IsUnlogged}
@@ -26,7 +25,7 @@ IsNoOffice fault = IsUnheard fault
 abbrev pub StopsLive : Type 0 → Type 0 → LiveRequest → LiveFault → Type 0
 StopsLive H F request fault =
     OfOpening (IsNoHours request.hours) fault
-    ⊎ IsNoFirstFitOpening request.plan.now fault
+    ⊎ OfOpening (IsNoOpening request.plan.now) fault
     ⊎ (IsAtHand request × OfOpening IsNoLine fault)
     ⊎ (IsAtHand request × (has_office request ≡ true) × OfOpening IsNoOffice fault)
     ⊎ ((at_hand : IsAtHand request) × (IsNoLog request.journal (live_head at_hand.digest at_hand.hours) at_hand.channels at_hand.opened fault ⊎ (IsUnlogged request.journal fault × IsLiveStopped H F request)))

@@ -1,9 +1,13 @@
 -- Private: where the office of a live day is opened, by its words.
 use Rattle.std.specs.Prelude.{◌≡◌, ℕ, ◌<◌, List, length, Option, Some, None}
+use Rattle.std.specs.declared.net.tcp.TcpListener.{TcpListener}
 use Rattle.bx_office.specs.Origins.{origin_text}
 use Rattle.bx_office.specs.declared.gate.Place.{Place as DoorPlace}
 use Rattle.bx_office.specs.declared.gate.Place.TheVariants as doors
 use Rattle.bx_office.specs.declared.origins.Origin.{Origin}
+use Rattle.bx_office_door.specs.Listening.{IsAtPort}
+use Rattle.bx_office_door.specs.declared.stream.Listening.{Listening}
+use Rattle.bx_office_door.specs.declared.stream.Listening.TheVariants as listeners
 use Rattle.bx_request.specs.declared.request.Place.{Place}
 use Rattle.bx_request.specs.declared.request.Place.TheVariants.{Port, Socket}
 
@@ -26,3 +30,9 @@ IsOriginNamed None None = Unit {0}
 IsOriginNamed None (Some origin) = ⊥
 IsOriginNamed (Some text) None = 255 < length text
 IsOriginNamed (Some text) (Some origin) = origin_text origin ≡ text
+
+-- at a port the system has given a listener for just this port of 127.0.0.1; at a path it is one of the file system
+abbrev pub IsListeningAt : (List ℕ → ℕ → TcpListener → Type 0) → Place → Listening → Type 0
+IsListeningAt listens (Port port) listening = IsAtPort listens port listening
+IsListeningAt listens (Socket path) (listeners.Path listener) = Unit {0}
+IsListeningAt listens (Socket path) (listeners.Port listener) = ⊥

@@ -4,13 +4,18 @@ ghost use Rattle.std.specs.Prelude.{◌≡◌, true, is_some, IfOk, IfSome, OnEr
 ghost use Rattle.bx_calendar.specs.Clocks.{IsClock};
 ghost use Rattle.bx_live_commands.specs.LiveRuns.{RunsByLine, StopsByLine};
 
+use crate::door_watch::DoorWatch;
+use crate::live_end::LiveEnd;
 use crate::plan_file::{PlanFile, PlanWatched};
+use crate::unattended::Unattended;
+use bx_base::ChannelSet;
 use bx_calendar::Clock as DayClock;
-use bx_day::Exchange;
 use bx_journal::Disk;
 use bx_journal_files::Resumed;
 use bx_line_world::{Line, LineWorld, Wire};
-use bx_live::{CannotLog, Schedule, run_held};
+use bx_live::{CannotLog, Schedule};
+use bx_market::run_market;
+use bx_office_door::SharedDoor;
 use bx_world::Telling;
 use std::fs::Files;
 use std::rt::Clock;
@@ -35,37 +40,55 @@ impl<'a> Told<'a> {
 }
 
 /// Runs the rest of a day up to a turn of it, and after that on while a call is up, by the clock, as the network's end of a data link
-/// over the wire. Answers the exchange at the end of the day. `CannotLog` where an event cannot be logged, since the journal's disk has
-/// failed: nothing more is done then.
-pub fn run_by_clock<'a, 'h, H: Clock + Files + Eprint, W: Wire + Drop, D: Disk + Drop>(
+/// over the wire. Where one of these channels is lost, what waits on it moves to those that are left, and what these do not carry is given
+/// up; all of that is logged. Answers the exchange at the end of the day, and how bookings were given up. `CannotLog` where something
+/// cannot be logged, since the journal's disk has failed: nothing more is done then.
+pub fn run_by_clock<
+    'a,
+    'h,
+    H: Clock + Files + Eprint + AllocGlobal,
+    W: Wire + Drop,
+    D: Disk + Drop,
+>(
     rt: &'h H,
     resumed: Resumed<D>,
     wire: W,
     schedule: Schedule,
+    channels: ChannelSet,
     turns: u32,
     told: Told<'a>,
-) -> Result<Exchange, CannotLog>
+) -> Result<LiveEnd, CannotLog>
     ensures failed { OnErr result (is_some resumed.log.disk ≡ true) }
-    ensures stopped { OnErr result (StopsByLine W.did D.holds D.may_leave D.moment D.left_since D.has_failed wire schedule resumed.log resumed.exchange) }
-    ensures ran { IfOk result (RunsByLine W.did D.holds D.may_leave D.moment D.left_since D.has_failed wire schedule resumed.log turns resumed.exchange) }
+    ensures stopped { OnErr result
+        (StopsByLine W.did D.holds D.may_leave D.moment D.left_since D.has_failed wire schedule resumed.log channels turns resumed.exchange) }
+    ensures ran { IfOk result
+        (λ end. RunsByLine W.did D.holds D.may_leave D.moment D.left_since D.has_failed wire schedule resumed.log channels turns resumed.exchange
+        end.exchange resumed.given_up.items end.given_up.items) }
 {
     let Resumed {
         mut exchange,
         log,
+        given_up,
         ..
     } = resumed;
     let line = Line::new(true, wire).going_on(exchange.moment());
     let world = LineWorld::new(schedule, line, log);
     let telling = Telling::new(rt, world, told.clock(), told.is_shown);
-    let mut watched = PlanWatched {
-        world: telling,
-        rt,
-        plan: Some(told.plan),
-        door: None,
-        is_shown: told.is_shown,
+    let mut market = Unattended {
+        world: PlanWatched {
+            world: telling,
+            rt,
+            plan: Some(told.plan),
+            door: None::<DoorWatch<SharedDoor>>,
+            is_shown: told.is_shown,
+        },
+        given_up,
     };
-    let done = run_held(&mut exchange, &mut watched, turns);
-    watched.world.clear();
+    let done = run_market(rt.alloc(), &mut exchange, &mut market, channels, turns);
+    market.world.world.clear();
     done?;
-    Ok(exchange)
+    Ok(LiveEnd {
+        exchange,
+        given_up: market.given_up,
+    })
 }

@@ -5,30 +5,28 @@ ghost use Rattle.bx_live_commands.specs.OfficeRuns.{SellsByLine, StopsSelling};
 
 use crate::by_line::Told;
 use crate::door_watch::DoorWatch;
+use crate::live_end::LiveEnd;
 use crate::plan_file::PlanWatched;
 use bx_base::ChannelSet;
 use bx_calendar::{Clock as DayClock, Day};
-use bx_day::Exchange;
 use bx_journal::Disk;
 use bx_journal_files::Resumed;
 use bx_line_world::{Line, LineWorld, Wire};
 use bx_live::{CannotLog, Schedule};
 use bx_market::run_market;
-use bx_office_door::{Door, OfficeWire};
+use bx_office_door::{Lends, OfficeWire};
 use bx_office_world::{Ledger, Office, OfficeWorld, Opened};
 use bx_world::Telling;
-use std::cell::RefCell;
 use std::fs::Files;
-use std::rc::Rc;
 use std::rt::Clock;
 
 /// What a booking office is opened with: its door, which the wire has too, and who tells of it, the channels in service, the day, and the least
 /// pay of each started minute of what is sold, where 0 is none.
 #[derive(Drop)]
-pub struct Premises {
-    pub door: Rc<RefCell<Door>>,
-    pub beside: Rc<RefCell<Door>>,
-    pub watched: Rc<RefCell<Door>>,
+pub struct Premises<S> {
+    pub door: S,
+    pub beside: S,
+    pub watched: S,
     pub channels: ChannelSet,
     pub day: Day,
     pub rate: u32,
@@ -55,14 +53,15 @@ fn opened_until(
 
 /// Runs the rest of a day as `run_by_clock` does, and between two seconds answers who stands at the door: what is sold, given up or
 /// changed is logged, and on the disk, before its customer is told, and what starts after the last of these turns is not sold. Answers the exchange at
-/// the end of the day, with all of that. `CannotLog` where something cannot be logged, since the journal's disk has failed: nothing more is
-/// done or told then.
+/// the end of the day, with all of that, and how bookings were given up. `CannotLog` where something cannot be logged, since the journal's
+/// disk has failed: nothing more is done or told then.
 pub fn run_with_office<
     'a,
     'h,
     H: Clock + Files + Eprint + AllocGlobal,
     W: Wire + Drop,
     D: Disk + Drop,
+    S: Lends + Drop,
 >(
     rt: &'h H,
     resumed: Resumed<D>,
@@ -70,18 +69,20 @@ pub fn run_with_office<
     schedule: Schedule,
     turns: u32,
     told: Told<'a>,
-    premises: Premises,
-) -> Result<Exchange, CannotLog>
+    premises: Premises<S>,
+) -> Result<LiveEnd, CannotLog>
     ensures failed { OnErr result (is_some resumed.log.disk ≡ true) }
     ensures stopped { OnErr result
-        (StopsSelling W.did D.holds D.may_leave D.moment D.left_since D.has_failed wire schedule resumed.log premises.channels turns resumed.exchange) }
+        (StopsSelling W.did S.lent D.holds D.may_leave D.moment D.left_since D.has_failed wire schedule resumed.log premises turns resumed.exchange) }
     ensures ran { IfOk result
-        (SellsByLine W.did D.holds D.may_leave D.moment D.left_since D.has_failed wire schedule resumed.log premises.channels turns resumed.exchange) }
+        (λ end. SellsByLine W.did S.lent D.holds D.may_leave D.moment D.left_since D.has_failed wire schedule resumed.log premises turns resumed.exchange
+        end.exchange resumed.given_up.items end.given_up.items) }
 {
     let Resumed {
         mut exchange,
         tags,
         log,
+        given_up,
     } = resumed;
     let ledger = Ledger::of(rt.alloc(), &exchange, &tags);
     let Premises {
@@ -106,10 +107,13 @@ pub fn run_with_office<
             door: Some(DoorWatch::new(watched)),
             is_shown: told.is_shown,
         },
-        office: Office::new(rt.alloc(), door, &opened, ledger),
+        office: Office::new(rt.alloc(), door, &opened, ledger, given_up),
     };
     let done = run_market(rt.alloc(), &mut exchange, &mut market, channels, turns);
     market.world.world.clear();
     done?;
-    Ok(exchange)
+    Ok(LiveEnd {
+        exchange,
+        given_up: market.office.into_given_up(),
+    })
 }

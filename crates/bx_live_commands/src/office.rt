@@ -4,9 +4,9 @@ ghost use Rattle.std.specs.Prelude.{◌≡◌, true, IfOk, IfErr, OnErr};
 ghost use Rattle.bx_calendar.specs.DayParts.{length_of};
 ghost use Rattle.bx_day_openings.specs.OpeningRefusals.{IsUnheard};
 ghost use Rattle.bx_live_commands.specs.LiveDays.{has_office, AreLiveTurns};
-ghost use Rattle.bx_live_commands.specs.LiveInside.{IsOpenAt, IsRatedAs};
+ghost use Rattle.bx_live_commands.specs.LiveInside.{IsOpenAt};
 ghost use Rattle.bx_live_commands.specs.LiveRefusals.{IsNoOffice};
-ghost use Rattle.bx_live_commands.specs.OfficePlaces.{port_behind, socket_behind, place_behind, IsOriginNamed};
+ghost use Rattle.bx_live_commands.specs.OfficePlaces.{port_behind, socket_behind, place_behind, IsOriginNamed, IsListeningAt};
 ghost use Rattle.bx_office.specs.Targets.{text_of};
 
 use crate::by_office::Premises;
@@ -17,16 +17,16 @@ use bx_day_openings::{
     AFTER_THE_LAST, DayCommandFault, Hours, System, day_turns, listener_at, unheard,
 };
 use bx_office::{Origin, Place as DoorPlace};
-use bx_office_door::{Door, Listening};
+use bx_office_door::{Door, Listening, Listens, SharedDoor};
 use bx_request::{LiveRequest, Place};
 use std::alloc::{AllocError, Global};
-use std::cell::RefCell;
 use std::io;
 use std::net::{Ipv4Addr, SocketAddrV4};
-use std::rc::Rc;
 
 /// A listener at a place, which never waits. A file of a socket on which nobody listens is replaced.
-fn listening<H: System>(rt: &H, place: Place<'_>) -> io::Result<Listening> {
+fn listening<H: System + Listens>(rt: &H, place: Place<'_>) -> io::Result<Listening>
+    ensures { IfOk result (IsListeningAt (H.listens rt.now) place.entry) }
+{
     match place {
         Place::Port(port) => Listening::at_port(rt, port),
         Place::Socket(path) => {
@@ -69,7 +69,7 @@ fn origin_of(text: Option<&str>) -> Option<Origin>
 
 /// A door at a place, behind a proxy of this origin where there is one, of a day that begins then, in nanoseconds since 1970. `CannotListen` where
 /// nobody can be let in there.
-fn door_at<'a, H: System>(
+fn door_at<'a, H: System + Listens>(
     rt: &H,
     place: Place<'a>,
     origin: Option<Origin>,
@@ -103,12 +103,10 @@ fn premises_at(
     channels: ChannelSet,
     day: Day,
     rate: u32,
-) -> Result<Premises, AllocError>
-    ensures { IfOk result (λ premises. (premises.channels ≡ channels) × (premises.rate ≡ rate)) }
+) -> Result<Premises<SharedDoor>, AllocError>
+    ensures { IfOk result (λ premises. (premises.channels ≡ channels) × (premises.day ≡ day) × (premises.rate ≡ rate)) }
 {
-    let Ok(door) = Rc::new(alloc, RefCell::new(door)) else {
-        return Err(AllocError);
-    };
+    let door = SharedDoor::new(alloc, door)?;
     let beside = door.clone()?;
     let watched = door.clone()?;
     Ok(Premises {
@@ -123,14 +121,13 @@ fn premises_at(
 
 /// What the office that the words want is opened with, where they want one. Without a journal there is none: nothing is sold outside the
 /// journal. `CannotListen` where nobody can be let in there, `Command`, as `Memory`, where memory runs out.
-pub(crate) fn premises_of<'a, H: System>(
+pub(crate) fn premises_of<'a, H: System + Listens>(
     rt: &H,
     request: LiveRequest<'a>,
     channels: ChannelSet,
     hours: Hours,
-) -> Result<Option<Premises>, DayCommandFault<'a>>
-    ensures opened { IfOk result (IsOpenAt (has_office request.entry) channels) }
-    ensures rated { IfOk result (IsRatedAs request.entry.rate) }
+) -> Result<Option<Premises<SharedDoor>>, DayCommandFault<'a>>
+    ensures opened { IfOk result (IsOpenAt (has_office request.entry) channels hours.day request.entry.rate) }
     ensures wanted { OnErr result (has_office request.entry ≡ true) }
     ensures refused { IfErr result IsNoOffice }
 {
@@ -146,14 +143,14 @@ pub(crate) fn premises_of<'a, H: System>(
     }
 }
 
-/// How many seconds a live day has: as many as were asked for, or as its accepted bookings need; where an office is open, at least as many as each
-/// booking of the day does, since it may still be sold.
+/// How many seconds a live day has: as many as were asked for, or as its accepted bookings need. Where an office is open it is so all day, and the day is over
+/// with its date, or with the last of these bookings, so that the next day's exchange has the line at once: the run goes on while a call is up.
 pub(crate) fn live_turns(exchange: &Exchange, day: &Day, asked: Option<u32>, is_open: bool) -> u32
     ensures { AreLiveTurns is_open asked (length_of day.now) exchange.now.entries result }
 {
     let turns = day_turns(exchange, asked);
     if is_open && asked.is_none() {
-        turns.max(day.length() + AFTER_THE_LAST)
+        turns.saturating_sub(AFTER_THE_LAST).max(day.length())
     } else {
         turns
     }

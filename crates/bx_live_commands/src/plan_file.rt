@@ -4,13 +4,15 @@ ghost use Rattle.std.specs.Prelude.{◌≡◌};
 
 use crate::door_watch::DoorWatch;
 use bx_devices::WriteFailed;
-use bx_events::LiveEvent;
+use bx_events::{Amendment, LiveEvent};
 use bx_frames::{Frame, LinkFault};
 use bx_live::{Begin, CannotLog, Loss, World};
+use bx_office_door::Lends;
 use bx_q931::Octets;
 use std::fs;
 use std::fs::Files;
 use std::os::unix::fs::MetadataExt;
+use std::str::from_utf8;
 
 /// What is seen of a file without reading it: where it stands, its length, and when it was changed.
 #[derive(Clone, Copy, PartialEq, Eq)]
@@ -60,20 +62,21 @@ impl<'a> PlanFile<'a> {
 }
 
 /// A world that looks in each second that begins whether the plan of its day still stands as it was, and tells once on standard error where
-/// it does not: the day goes by the plan that was read. Where an office is open it tells at most once a minute that no file descriptor is left
-/// for whoever waits there. What standard error does with it changes nothing.
+/// it does not: the day goes by the plan that was read. It tells which channel is lost and left, and which booking is given up for want of
+/// one. Where an office is open it tells at most once a minute that no file descriptor is left for whoever waits there. What standard error
+/// does with it changes nothing.
 #[derive(Drop)]
-pub(crate) struct PlanWatched<'a, 'h, W, H> {
+pub(crate) struct PlanWatched<'a, 'h, W, H, S> {
     pub(crate) world: W,
     pub(crate) rt: &'h H,
     /// None once it was told.
     pub(crate) plan: Option<PlanFile<'a>>,
     /// The door of the office, where one is open.
-    pub(crate) door: Option<DoorWatch>,
+    pub(crate) door: Option<DoorWatch<S>>,
     pub(crate) is_shown: bool,
 }
 
-impl<'a, 'h, W, H: Files + Eprint> PlanWatched<'a, 'h, W, H> {
+impl<'a, 'h, W, H: Files + Eprint, S: Lends> PlanWatched<'a, 'h, W, H, S> {
     /// Begins a line, where the moment stands on the one before.
     fn clear(&self) {
         if self.is_shown {
@@ -97,6 +100,31 @@ impl<'a, 'h, W, H: Files + Eprint> PlanWatched<'a, 'h, W, H> {
         );
     }
 
+    /// Tells that a channel is lost, or that a booking is given up for want of one, where that was logged.
+    fn tell(&self, event: LiveEvent<'_>) {
+        let LiveEvent::Amended(kind, line) = event else {
+            return;
+        };
+        let Ok(number) = from_utf8(line) else {
+            return;
+        };
+        match kind {
+            Amendment::Out => {
+                self.clear();
+                let _ = eprintln!(self.rt;
+                    "note: channel {number} is in maintenance: what waits for its start leaves it"
+                );
+            }
+            Amendment::Dropped => {
+                self.clear();
+                let _ = eprintln!(self.rt;
+                    "note: the booking of row {number} is given up: no channel is left for it"
+                );
+            }
+            _ => {}
+        }
+    }
+
     /// Tells that the plan is another, where that is new.
     fn look(&mut self)
         ensures { self.new.world ≡ self.old.world }
@@ -116,7 +144,7 @@ impl<'a, 'h, W, H: Files + Eprint> PlanWatched<'a, 'h, W, H> {
     }
 }
 
-impl<'a, 'h, W: World, H: Files + Eprint> World for PlanWatched<'a, 'h, W, H> {
+impl<'a, 'h, W: World, H: Files + Eprint, S: Lends> World for PlanWatched<'a, 'h, W, H, S> {
     ghost did = { λ s acts t. W.did s.world acts t.world };
 
     fn begin(&mut self, second: u32) -> Begin {
@@ -131,7 +159,9 @@ impl<'a, 'h, W: World, H: Files + Eprint> World for PlanWatched<'a, 'h, W, H> {
     }
 
     fn log(&mut self, event: LiveEvent<'_>) -> Result<(), CannotLog> {
-        self.world.log(event)
+        self.world.log(event)?;
+        self.tell(event);
+        Ok(())
     }
 
     fn sync(&mut self) -> Result<(), CannotLog> {

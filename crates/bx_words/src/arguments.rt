@@ -340,7 +340,11 @@ fn needs_of(argument: Argument) -> &'static [&'static str] {
 fn conflicts_of(argument: Argument) -> &'static [&'static str] {
     match argument {
         Argument::Socket => &["port"],
-        Argument::ServedLine | Argument::FarLine => &["port", "socket"],
+        Argument::ServedLine
+        | Argument::FarLine
+        | Argument::Live
+        | Argument::FarPace
+        | Argument::FarTurns => &["port", "socket"],
         Argument::OfficePort => &["office"],
         _ => &[],
     }

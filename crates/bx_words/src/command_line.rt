@@ -1,5 +1,8 @@
 //! The command line as `clap` knows it.
 
+ghost use Rattle.std.specs.Prelude.{◌≡◌, IfSome};
+ghost use Rattle.bx_words.specs.Inside.{command_word};
+
 use crate::arguments::{Argument, Day, Journal, arg_of};
 use clap::Command;
 use std::alloc::{AllocError, Global};
@@ -57,7 +60,9 @@ pub enum Name {
 }
 
 /// A name as it is given.
-fn word_of<'a>(name: Name) -> &'a str {
+fn word_of<'a>(name: Name) -> &'a str
+    ensures { result.now ≡ command_word name }
+{
     match name {
         Name::Plan => "plan",
         Name::Check => "check",
@@ -241,7 +246,9 @@ static COMMANDS: [Words; 14] = [
 ];
 
 /// The name that is given so, where it is one.
-pub(crate) fn name_of_word(word: &str) -> Option<Name> {
+pub(crate) fn name_of_word(word: &str) -> Option<Name>
+    ensures { IfSome result (λ name. command_word name ≡ word.now) }
+{
     for words in &COMMANDS {
         if word_of(words.name) == word {
             return Some(words.name);

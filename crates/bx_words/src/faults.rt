@@ -15,7 +15,6 @@ C5 WrongTotal         the total of the plan is not what its accepted rows pay
 C6 PricesOutOfOrder   the moments of the prices do not rise
 C7 NotProved bound    the prices set this bound, above the total: they do not prove the plan best
 C8 MustLeftOut b      row b must be held, and is not accepted
-D1 NotFirstFit        the channels of the plan are not those of first fit, so a live day of it could not be sold on
 F1 CannotRead NAME    the file cannot be opened or read, or has more than 4,194,304 octets
 F2 CannotWrite        standard output failed
 F3 CannotListen       the port or the socket cannot be listened on, or the line's own port cannot be had
@@ -63,9 +62,10 @@ J9 BadSale            a line of the journal says what became of a booking, and t
 J10 LateSale          the journal says that a booking was sold which had started by then
 J11 TooMany           the journal says that a booking was sold when the day had 16,000
 J12 NotCarried        the journal says that a booking was sold or changed which does not fit beside what was promised
-J13 OtherChannels     the journal says that a booking was sold, given up or changed by which one that had started would have changed its channel
+J13 TookOver          the journal says that a booking was sold on a day that took over from another, where it has no reference of its own
 J14 NoBooking         the journal says that a booking was given up or changed, and the day had none of that row that was promised
 J15 LateChange        the journal says that a booking was given up or changed which could not be so any more
+J16 BadChannel        the journal says that a channel was left which is none of the plan, or was not in maintenance
 L1 ReadFailed         the link: a read failed
 L2 WriteFailed        the link: a write failed
 L3 EndedInFrame       the link: it ended inside a frame, or before the end of a turn

@@ -1,5 +1,7 @@
 //! Origins, as the command line has them.
 
+ghost use Rattle.std.specs.Prelude.{◌≡◌, ◌++◌, ℕ, List, IfSome};
+
 use crate::line_ports::port_in;
 
 /// The most octets of an origin.
@@ -49,7 +51,9 @@ fn is_port(port: Option<&str>) -> bool {
 
 /// The origin that a text is, of `http://` or `https://`, a host, and a port where it has one, in 255 octets at most, as a browser says it:
 /// without the port of its scheme (RFC 6454, section 6.2). None where the text has another form.
-pub(crate) fn origin_in(text: &str) -> Option<&str> {
+pub(crate) fn origin_in(text: &str) -> Option<&str>
+    ensures { IfSome result (λ origin. (rest : List ℕ) × (text.now ≡ origin.now ++ rest)) }
+{
     let (scheme, site) = text.split_once("://")?;
     let own = match scheme {
         "http" => ":80",

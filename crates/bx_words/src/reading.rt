@@ -1,5 +1,13 @@
 //! What a command line asks for.
 
+ghost use Rattle.std.specs.Prelude.{◌≡◌, ℕ, Option, [], Err, true, codes, unwrap_or, MatchResult};
+ghost use Rattle.clap.specs.Words.{found_of};
+ghost use Rattle.bx_words.specs.Inside.{IsNoHelp, command_word};
+ghost use Rattle.bx_words.specs.Asked.{AreWordsRead, AskForHelp, IsCommandOf, is_help_option};
+ghost use Rattle.bx_words.specs.Filled.{AreHoursGiven, AreRecordsGiven, AreTermsGiven, IsAskedBy, IsCallGiven, IsCaptureGiven, IsDayGiven};
+ghost use Rattle.bx_words.specs.Filled.{IsLineText, IsNumberGiven, IsOfficeGiven, IsOriginGiven, IsPeerGiven, IsPlaceGiven, IsRehearsalFilled};
+ghost use Rattle.bx_words.specs.Filled.{IsSightGiven, word_given_or};
+
 use crate::channel_list::channel_numbers;
 use crate::command_line::{Name, name_of_word, program_of_words};
 use crate::faults::FAULTS;
@@ -26,52 +34,69 @@ pub enum Refusal {
 }
 
 impl From<AllocError> for Refusal {
+    ghost use Rattle.bx_words.specs.declared.reading.Refusal.TheVariants.{Memory};
+
+    ghost from_gives = { λ _ refusal. refusal ≡ Memory };
+
     fn from(_e: AllocError) -> Refusal {
         Refusal::Memory
     }
 }
 
 impl<T: Drop> From<AllocFailed<T>> for Refusal {
+    ghost use Rattle.bx_words.specs.declared.reading.Refusal.TheVariants.{Memory};
+
+    ghost from_gives = { λ _ refusal. refusal ≡ Memory };
+
     fn from(_e: AllocFailed<T>) -> Refusal {
         Refusal::Memory
     }
 }
 
-/// Help that was asked for, or what is wrong with the words.
-fn refusal_of(alloc: Global, error: Error) -> Refusal {
+/// What is wrong with the words.
+fn told(alloc: Global, error: &Error) -> Refusal
+    ensures { IsNoHelp result }
+{
     if error.kind() == ErrorKind::OutOfMemory {
         return Refusal::Memory;
     }
     match error.to_string(alloc) {
-        Ok(text) if error.use_stderr() => Refusal::Wrong(text),
-        Ok(text) => Refusal::Help(text),
+        Ok(text) => Refusal::Wrong(text),
         Err(_) => Refusal::Memory,
     }
 }
 
 /// Wrong words, in the form of `clap`'s own refusals.
-fn wrong(alloc: Global, message: &str) -> Refusal {
+fn wrong(alloc: Global, message: &str) -> Refusal
+    ensures { IsNoHelp result }
+{
     let Ok(mut command) = program_of_words(alloc) else {
         return Refusal::Memory;
     };
     match command.error(ErrorKind::ValueValidation, message) {
-        Ok(error) => refusal_of(alloc, error),
+        Ok(error) => told(alloc, &error),
         Err(_) => Refusal::Memory,
     }
 }
 
 /// The word of an argument that the command requires or has a default for.
-fn word<'a>(matches: &ArgMatches<'a>, name: &str) -> &'a str {
+fn word<'a>(matches: &ArgMatches<'a>, name: &str) -> &'a str
+    ensures { result.now ≡ word_given_or [] (found_of matches.now) name.now }
+{
     matches.get_str(name).unwrap_or("")
 }
 
 /// The port, which the command requires.
-fn port_of(matches: &ArgMatches<'_>) -> u16 {
+fn port_of(matches: &ArgMatches<'_>) -> u16
+    ensures { (number : Option ℕ) × IsNumberGiven 16 (found_of matches.now) (codes "port") number × (result ≡ unwrap_or number 0) }
+{
     matches.get_one::<u16>("port").unwrap_or(0)
 }
 
 /// The day and the channels that these words name.
-fn terms_of<'a>(alloc: Global, matches: &ArgMatches<'a>) -> Result<Terms<'a>, Refusal> {
+fn terms_of<'a>(alloc: Global, matches: &ArgMatches<'a>) -> Result<Terms<'a>, Refusal>
+    ensures { MatchResult result (AreTermsGiven (found_of matches.now)) IsNoHelp }
+{
     let list = word(matches, "channels");
     match channel_numbers(alloc, list)? {
         Some(channels) => Ok(Terms {
@@ -89,29 +114,42 @@ fn terms_of<'a>(alloc: Global, matches: &ArgMatches<'a>) -> Result<Terms<'a>, Re
 }
 
 /// The date and the zone that these words name, where they name a date.
-fn day_of<'a>(matches: &ArgMatches<'a>) -> Option<(&'a str, &'a str)> {
+fn day_of<'a>(matches: &ArgMatches<'a>) -> Option<(&'a str, &'a str)>
+    ensures { IsDayGiven (found_of matches.now) result }
+{
     let zone = matches.get_str("zone").unwrap_or("UTC0");
-    matches.get_str("date").map(|date| (date, zone))
+    match matches.get_str("date") {
+        Some(date) => Some((date, zone)),
+        None => None,
+    }
 }
 
 /// The capture that these words want.
-fn capture_of<'a>(matches: &ArgMatches<'a>) -> Option<CaptureWords<'a>> {
+fn capture_of<'a>(matches: &ArgMatches<'a>) -> Option<CaptureWords<'a>>
+    ensures { IsCaptureGiven (found_of matches.now) result }
+{
     let day = day_of(matches);
-    matches
-        .get_str("capture")
-        .map(|file| CaptureWords { file, day })
+    match matches.get_str("capture") {
+        Some(file) => Some(CaptureWords { file, day }),
+        None => None,
+    }
 }
 
 /// The records that these words want at the end of a day.
-fn records_of<'a>(matches: &ArgMatches<'a>) -> Option<RecordsWords<'a>> {
+fn records_of<'a>(matches: &ArgMatches<'a>) -> Option<RecordsWords<'a>>
+    ensures { AreRecordsGiven (found_of matches.now) result }
+{
     let day = day_of(matches);
-    matches
-        .get_str("records")
-        .map(|file| RecordsWords { file, day })
+    match matches.get_str("records") {
+        Some(file) => Some(RecordsWords { file, day }),
+        None => None,
+    }
 }
 
 /// What these words want to see of a day.
-fn sight_of<'a>(matches: &ArgMatches<'a>) -> Sight<'a> {
+fn sight_of<'a>(matches: &ArgMatches<'a>) -> Sight<'a>
+    ensures { IsSightGiven (found_of matches.now) result }
+{
     Sight {
         capture: capture_of(matches),
         is_quiet: matches.get_flag("quiet"),
@@ -119,7 +157,9 @@ fn sight_of<'a>(matches: &ArgMatches<'a>) -> Sight<'a> {
 }
 
 /// The call that these words name.
-fn call_of<'a>(matches: &ArgMatches<'a>) -> Call<'a> {
+fn call_of<'a>(matches: &ArgMatches<'a>) -> Call<'a>
+    ensures { IsCallGiven (found_of matches.now) result }
+{
     Call {
         start: word(matches, "start"),
         end: word(matches, "end"),
@@ -129,14 +169,18 @@ fn call_of<'a>(matches: &ArgMatches<'a>) -> Call<'a> {
 }
 
 /// The plan that these words want.
-fn plan_request<'a>(alloc: Global, matches: &ArgMatches<'a>) -> Result<Request<'a>, Refusal> {
+fn plan_request<'a>(alloc: Global, matches: &ArgMatches<'a>) -> Result<Request<'a>, Refusal>
+    ensures { MatchResult result (IsAskedBy (codes "plan") (found_of matches.now)) IsNoHelp }
+{
     let terms = terms_of(alloc, matches)?;
     let bookings = word(matches, "bookings");
     Ok(Request::Files(FileRequest::Plan { terms, bookings }))
 }
 
 /// The check of a plan that these words want.
-fn check_request<'a>(alloc: Global, matches: &ArgMatches<'a>) -> Result<Request<'a>, Refusal> {
+fn check_request<'a>(alloc: Global, matches: &ArgMatches<'a>) -> Result<Request<'a>, Refusal>
+    ensures { MatchResult result (IsAskedBy (codes "check") (found_of matches.now)) IsNoHelp }
+{
     let terms = terms_of(alloc, matches)?;
     Ok(Request::Files(FileRequest::Check {
         terms,
@@ -146,7 +190,9 @@ fn check_request<'a>(alloc: Global, matches: &ArgMatches<'a>) -> Result<Request<
 }
 
 /// The plan for more bookings that these words want.
-fn amend_request<'a>(matches: &ArgMatches<'a>) -> Request<'a> {
+fn amend_request<'a>(matches: &ArgMatches<'a>) -> Request<'a>
+    ensures { IsAskedBy (codes "amend") (found_of matches.now) result }
+{
     Request::Files(FileRequest::Amend {
         date: word(matches, "date"),
         zone: word(matches, "zone"),
@@ -156,7 +202,9 @@ fn amend_request<'a>(matches: &ArgMatches<'a>) -> Request<'a> {
 }
 
 /// What other numbers of channels earn, which these words want.
-fn capacity_request<'a>(matches: &ArgMatches<'a>) -> Request<'a> {
+fn capacity_request<'a>(matches: &ArgMatches<'a>) -> Request<'a>
+    ensures { IsAskedBy (codes "capacity") (found_of matches.now) result }
+{
     Request::Files(FileRequest::Capacity {
         date: word(matches, "date"),
         zone: word(matches, "zone"),
@@ -165,7 +213,9 @@ fn capacity_request<'a>(matches: &ArgMatches<'a>) -> Request<'a> {
 }
 
 /// What these words want explained.
-fn explain_request<'a>(matches: &ArgMatches<'a>) -> Request<'a> {
+fn explain_request<'a>(matches: &ArgMatches<'a>) -> Request<'a>
+    ensures { IsAskedBy (codes "explain") (found_of matches.now) result }
+{
     Request::Files(FileRequest::Explain {
         plan: word(matches, "plan"),
         row: matches.get_one::<u16>("row"),
@@ -173,7 +223,9 @@ fn explain_request<'a>(matches: &ArgMatches<'a>) -> Request<'a> {
 }
 
 /// The quote that these words want.
-fn quote_request<'a>(matches: &ArgMatches<'a>) -> Request<'a> {
+fn quote_request<'a>(matches: &ArgMatches<'a>) -> Request<'a>
+    ensures { IsAskedBy (codes "quote") (found_of matches.now) result }
+{
     Request::Files(FileRequest::Quote {
         plan: word(matches, "plan"),
         call: call_of(matches),
@@ -181,7 +233,9 @@ fn quote_request<'a>(matches: &ArgMatches<'a>) -> Request<'a> {
 }
 
 /// The picture that these words want: of a day by its journal, where they name one, and else of a plan.
-fn chart_request<'a>(matches: &ArgMatches<'a>) -> Request<'a> {
+fn chart_request<'a>(matches: &ArgMatches<'a>) -> Request<'a>
+    ensures { IsAskedBy (codes "chart") (found_of matches.now) result }
+{
     let plan = word(matches, "plan");
     let day = day_of(matches);
     match matches.get_str("journal") {
@@ -191,7 +245,9 @@ fn chart_request<'a>(matches: &ArgMatches<'a>) -> Request<'a> {
 }
 
 /// The port or the socket, of which the command requires one.
-fn place_of<'a>(alloc: Global, matches: &ArgMatches<'a>) -> Result<Place<'a>, Refusal> {
+fn place_of<'a>(alloc: Global, matches: &ArgMatches<'a>) -> Result<Place<'a>, Refusal>
+    ensures { MatchResult result (IsPlaceGiven (found_of matches.now)) IsNoHelp }
+{
     match matches.get_str("socket") {
         Some("") => Err(wrong(
             alloc,
@@ -203,7 +259,10 @@ fn place_of<'a>(alloc: Global, matches: &ArgMatches<'a>) -> Result<Place<'a>, Re
 }
 
 /// The rehearsal towards this peer that these words want.
-fn rehearsal_of<'a>(matches: &ArgMatches<'a>, peer: Peer<'a>) -> RehearsalRequest<'a> {
+fn rehearsal_of<'a>(matches: &ArgMatches<'a>, peer: Peer<'a>) -> RehearsalRequest<'a>
+    ensures peer { result.peer ≡ peer.entry }
+    ensures filled { IsPeerGiven (found_of matches.now) peer.entry → IsRehearsalFilled (found_of matches.now) result }
+{
     RehearsalRequest {
         plan: word(matches, "plan"),
         peer,
@@ -215,7 +274,9 @@ fn rehearsal_of<'a>(matches: &ArgMatches<'a>, peer: Peer<'a>) -> RehearsalReques
 }
 
 /// When the day by the clock is that these words want.
-fn hours_of<'a>(matches: &ArgMatches<'a>) -> DayHours<'a> {
+fn hours_of<'a>(matches: &ArgMatches<'a>) -> DayHours<'a>
+    ensures { AreHoursGiven (found_of matches.now) result }
+{
     DayHours {
         date: word(matches, "date"),
         zone: matches.get_str("zone").unwrap_or("UTC0"),
@@ -224,7 +285,9 @@ fn hours_of<'a>(matches: &ArgMatches<'a>) -> DayHours<'a> {
 }
 
 /// The two ports of the line that these words name.
-fn line_of(alloc: Global, text: &str) -> Result<LinePorts, Refusal> {
+fn line_of(alloc: Global, text: &str) -> Result<LinePorts, Refusal>
+    ensures { MatchResult result (IsLineText text.now) IsNoHelp }
+{
     match ports_in(text) {
         Some(line) => Ok(line),
         None => {
@@ -237,7 +300,9 @@ fn line_of(alloc: Global, text: &str) -> Result<LinePorts, Refusal> {
 }
 
 /// Where the booking office is to listen that these words want, if they want one.
-fn office_of<'a>(alloc: Global, matches: &ArgMatches<'a>) -> Result<Option<Place<'a>>, Refusal> {
+fn office_of<'a>(alloc: Global, matches: &ArgMatches<'a>) -> Result<Option<Place<'a>>, Refusal>
+    ensures { MatchResult result (IsOfficeGiven (found_of matches.now)) IsNoHelp }
+{
     if let Some(port) = matches.get_one::<u16>("office-port") {
         return Ok(Some(Place::Port(port)));
     }
@@ -252,7 +317,9 @@ fn office_of<'a>(alloc: Global, matches: &ArgMatches<'a>) -> Result<Option<Place
 }
 
 /// The origin that these words name, of a proxy in front of an office that they want.
-fn origin_of<'a>(alloc: Global, matches: &ArgMatches<'a>) -> Result<Option<&'a str>, Refusal> {
+fn origin_of<'a>(alloc: Global, matches: &ArgMatches<'a>) -> Result<Option<&'a str>, Refusal>
+    ensures { MatchResult result (IsOriginGiven (found_of matches.now)) IsNoHelp }
+{
     let Some(text) = matches.get_str("origin") else {
         return Ok(None);
     };
@@ -268,7 +335,9 @@ fn origin_of<'a>(alloc: Global, matches: &ArgMatches<'a>) -> Result<Option<&'a s
 }
 
 /// The day that these words want to be run by the clock.
-fn live_request<'a>(alloc: Global, matches: &ArgMatches<'a>) -> Result<Request<'a>, Refusal> {
+fn live_request<'a>(alloc: Global, matches: &ArgMatches<'a>) -> Result<Request<'a>, Refusal>
+    ensures { MatchResult result (IsAskedBy (codes "serve") (found_of matches.now)) IsNoHelp }
+{
     if matches.get_str("capture").is_some() || matches.get_str("records").is_some() {
         return Err(wrong(
             alloc,
@@ -312,7 +381,9 @@ fn is_date_alone(matches: &ArgMatches<'_>) -> bool {
 }
 
 /// What these words want of a day of both ends.
-fn day_request<'a>(alloc: Global, matches: &ArgMatches<'a>) -> Result<Request<'a>, Refusal> {
+fn day_request<'a>(alloc: Global, matches: &ArgMatches<'a>) -> Result<Request<'a>, Refusal>
+    ensures { MatchResult result (IsAskedBy (codes "day") (found_of matches.now)) IsNoHelp }
+{
     if is_date_alone(matches) {
         return Err(wrong(
             alloc,
@@ -324,7 +395,9 @@ fn day_request<'a>(alloc: Global, matches: &ArgMatches<'a>) -> Result<Request<'a
 }
 
 /// What these words want of an exchange that serves.
-fn serve_request<'a>(alloc: Global, matches: &ArgMatches<'a>) -> Result<Request<'a>, Refusal> {
+fn serve_request<'a>(alloc: Global, matches: &ArgMatches<'a>) -> Result<Request<'a>, Refusal>
+    ensures { MatchResult result (IsAskedBy (codes "serve") (found_of matches.now)) IsNoHelp }
+{
     if matches.get_flag("live") {
         return live_request(alloc, matches);
     }
@@ -343,7 +416,9 @@ fn far_line_request<'a>(
     alloc: Global,
     matches: &ArgMatches<'a>,
     line: &str,
-) -> Result<Request<'a>, Refusal> {
+) -> Result<Request<'a>, Refusal>
+    ensures { line.now ≡ word_given_or [] (found_of matches.now) (codes "line") → MatchResult result (IsAskedBy (codes "far") (found_of matches.now)) IsNoHelp }
+{
     let line = line_of(alloc, line)?;
     Ok(Request::FarLine(FarLineRequest {
         script: word(matches, "script"),
@@ -356,7 +431,9 @@ fn far_line_request<'a>(
 }
 
 /// What these words want of a far end.
-fn far_request<'a>(alloc: Global, matches: &ArgMatches<'a>) -> Result<Request<'a>, Refusal> {
+fn far_request<'a>(alloc: Global, matches: &ArgMatches<'a>) -> Result<Request<'a>, Refusal>
+    ensures { MatchResult result (IsAskedBy (codes "far") (found_of matches.now)) IsNoHelp }
+{
     if let Some(line) = matches.get_str("line") {
         return far_line_request(alloc, matches, line);
     }
@@ -375,7 +452,9 @@ fn far_request<'a>(alloc: Global, matches: &ArgMatches<'a>) -> Result<Request<'a
 }
 
 /// The day that these words want to be told by its journal.
-fn audit_request<'a>(matches: &ArgMatches<'a>) -> Request<'a> {
+fn audit_request<'a>(matches: &ArgMatches<'a>) -> Request<'a>
+    ensures { IsAskedBy (codes "audit") (found_of matches.now) result }
+{
     Request::Audit(AuditRequest {
         plan: word(matches, "plan"),
         journal: word(matches, "journal"),
@@ -384,7 +463,9 @@ fn audit_request<'a>(matches: &ArgMatches<'a>) -> Request<'a> {
 }
 
 /// The records that these words want of a day by its journal.
-fn records_request<'a>(matches: &ArgMatches<'a>) -> Request<'a> {
+fn records_request<'a>(matches: &ArgMatches<'a>) -> Request<'a>
+    ensures { IsAskedBy (codes "records") (found_of matches.now) result }
+{
     Request::Records(RecordsRequest {
         plan: word(matches, "plan"),
         journal: word(matches, "journal"),
@@ -394,7 +475,9 @@ fn records_request<'a>(matches: &ArgMatches<'a>) -> Request<'a> {
 }
 
 /// The last plan that these words want of a day by its journal.
-fn sold_request<'a>(matches: &ArgMatches<'a>) -> Request<'a> {
+fn sold_request<'a>(matches: &ArgMatches<'a>) -> Request<'a>
+    ensures { IsAskedBy (codes "sold") (found_of matches.now) result }
+{
     Request::Sold(SoldRequest {
         plan: word(matches, "plan"),
         journal: word(matches, "journal"),
@@ -402,7 +485,9 @@ fn sold_request<'a>(matches: &ArgMatches<'a>) -> Request<'a> {
 }
 
 /// The message that these words want decoded.
-fn decode_request<'a>(matches: &ArgMatches<'a>) -> Request<'a> {
+fn decode_request<'a>(matches: &ArgMatches<'a>) -> Request<'a>
+    ensures { IsAskedBy (codes "decode") (found_of matches.now) result }
+{
     Request::Decode {
         octets: word(matches, "octets"),
     }
@@ -413,7 +498,9 @@ fn request_of<'a>(
     alloc: Global,
     name: Name,
     matches: &ArgMatches<'a>,
-) -> Result<Request<'a>, Refusal> {
+) -> Result<Request<'a>, Refusal>
+    ensures { MatchResult result (IsAskedBy (command_word name) (found_of matches.now)) IsNoHelp }
+{
     match name {
         Name::Plan => plan_request(alloc, matches),
         Name::Check => check_request(alloc, matches),
@@ -432,14 +519,61 @@ fn request_of<'a>(
     }
 }
 
-/// The command that was found in the words.
-fn found_request<'a>(alloc: Global, matches: &ArgMatches<'a>) -> Result<Request<'a>, Refusal> {
-    if let Some((word, found)) = matches.subcommand()
+/// The command that the first of the words names, with what was found in the others.
+fn found_request<'a>(
+    alloc: Global,
+    words: &[&'a str],
+    matches: &ArgMatches<'a>,
+) -> Result<Request<'a>, Refusal>
+    ensures { MatchResult result (IsCommandOf words.now) IsNoHelp }
+{
+    if let Some(word) = words.first()
         && let Some(name) = name_of_word(word)
+        && let Some((_, found)) = matches.subcommand()
     {
         return request_of(alloc, name, found);
     }
     Err(Refusal::Wrong(String::new(alloc)))
+}
+
+/// Whether a word is an option that asks for help, or for the version. One of a letter may stand before others.
+fn is_plea(word: &str) -> bool
+    ensures { result ≡ is_help_option word.now }
+{
+    word == "--help"
+        || word == "--version"
+        || word.as_bytes().starts_with(b"-h")
+        || word.as_bytes().starts_with(b"-V")
+}
+
+/// Whether words ask for help or for the version.
+fn ask_for_help(words: &[&str]) -> bool
+    ensures { result ≡ true → AskForHelp words.now }
+{
+    if let Some(first) = words.first()
+        && *first == "help"
+    {
+        return true;
+    }
+    for word in words {
+        if is_plea(word) {
+            return true;
+        }
+    }
+    false
+}
+
+/// Help that was asked for, or what is wrong with the words.
+fn refusal_of(alloc: Global, words: &[&str], error: &Error) -> Refusal
+    ensures { AreWordsRead words.now (Err result) }
+{
+    if error.use_stderr() || !ask_for_help(words) {
+        return told(alloc, error);
+    }
+    match error.to_string(alloc) {
+        Ok(text) => Refusal::Help(text),
+        Err(_) => Refusal::Memory,
+    }
 }
 
 /// The list of faults.
@@ -458,7 +592,9 @@ fn name_it_twice(words: &[&str]) -> bool {
 /// The command of these words, which stand after the program's name. `help faults` is no command: it asks for the list
 /// of faults. `Wrong` where the words are no command, `Help` where help or the version was asked for, `Memory` where memory ran
 /// out.
-pub fn read_words<'a>(alloc: Global, words: &'a [&'a str]) -> Result<Request<'a>, Refusal> {
+pub fn read_words<'a>(alloc: Global, words: &'a [&'a str]) -> Result<Request<'a>, Refusal>
+    ensures { AreWordsRead words.now result }
+{
     if let ["help", "faults"] = words {
         return Err(faults(alloc));
     }
@@ -469,7 +605,7 @@ pub fn read_words<'a>(alloc: Global, words: &'a [&'a str]) -> Result<Request<'a>
         ));
     }
     match program_of_words(alloc)?.try_get_matches_from(words) {
-        Ok(matches) => found_request(alloc, &matches),
-        Err(error) => Err(refusal_of(alloc, error)),
+        Ok(matches) => found_request(alloc, words, &matches),
+        Err(error) => Err(refusal_of(alloc, words, &error)),
     }
 }

@@ -13,20 +13,20 @@ unlogged-requires g c =
 
 pub returns-in-Ok-clause-ran : goal.returns-in-Ok-clause-ran
 returns-in-Ok-clause-ran g c = λ hours opens at. record {
-  going = record { at_hand = at_hand_of c.args.request c.args.hours c.args.opening hours opens; resumed = c.in_ok-resumed.resumed.exchange; kept = c.in_ok-resumed.resumed.log; goes_on = c.in_ok-resumed.ensures.resumed; is_kept = c.in_ok-resumed.ensures.kept };
+  going = record { at_hand = at_hand_of c.args.request c.args.hours c.args.opening hours opens; resumed = c.in_ok-resumed.resumed.exchange; kept = c.in_ok-resumed.resumed.log; goes_on = c.in_ok-resumed.ensures.resumed; is_kept = c.in_ok-resumed.ensures.kept; given_up = c.in_ok-resumed.resumed.given_up.items; noted = c.in_ok-resumed.ensures.noted };
   turns = c.live_turns-turns.result;
-  are_turns = rw (← is_open_at (has_office c.args.request) c.args.opening.channels c.args.premises at) (rw (← c.is_some-is_open.ensures) c.live_turns-turns.ensures);
+  are_turns = rw (← is_open_at (has_office c.args.request) c.args.opening.channels c.args.hours.day c.args.request.rate c.args.premises at) (rw (← c.is_some-is_open.ensures) c.live_turns-turns.ensures);
   wire = c.new-wire.result;
-  ran = runs_on did_on holds_unknown may_leave_any no_moment any_since has_failed_in c.new-wire.result c.args.hours.schedule c.in_ok-resumed.resumed.log c.live_turns-turns.result c.in_ok-resumed.resumed.exchange (has_office c.args.request) c.args.opening.channels c.args.premises _ at c.in-Ok.ensures.ran;
+  ran = runs_on did_on holds_unknown may_leave_any no_moment any_since has_failed_in c.new-wire.result c.args.hours.schedule c.in_ok-resumed.resumed.log c.live_turns-turns.result c.in_ok-resumed.resumed.exchange (has_office c.args.request) c.args.opening.channels c.args.hours.day c.args.request.rate c.args.premises _ _ _ at c.in-Ok.ensures.ran;
 }
 
 pub returns-in-Err-clause-stopped : goal.returns-in-Err-clause-stopped
 returns-in-Err-clause-stopped g c = λ hours opens at. inr (
   c.unlogged.ensures,
   record {
-    going = record { at_hand = at_hand_of c.args.request c.args.hours c.args.opening hours opens; resumed = c.in_ok-resumed.resumed.exchange; kept = c.in_ok-resumed.resumed.log; goes_on = c.in_ok-resumed.ensures.resumed; is_kept = c.in_ok-resumed.ensures.kept };
+    going = record { at_hand = at_hand_of c.args.request c.args.hours c.args.opening hours opens; resumed = c.in_ok-resumed.resumed.exchange; kept = c.in_ok-resumed.resumed.log; goes_on = c.in_ok-resumed.ensures.resumed; is_kept = c.in_ok-resumed.ensures.kept; given_up = c.in_ok-resumed.resumed.given_up.items; noted = c.in_ok-resumed.ensures.noted };
     turns = c.live_turns-turns.result;
     wire = c.new-wire.result;
-    stopped = stops_on did_on holds_unknown may_leave_any no_moment any_since has_failed_in c.new-wire.result c.args.hours.schedule c.in_ok-resumed.resumed.log c.live_turns-turns.result c.in_ok-resumed.resumed.exchange (has_office c.args.request) c.args.opening.channels c.args.premises at c.in-Err.ensures.stopped;
+    stopped = stops_on did_on holds_unknown may_leave_any no_moment any_since has_failed_in c.new-wire.result c.args.hours.schedule c.in_ok-resumed.resumed.log c.live_turns-turns.result c.in_ok-resumed.resumed.exchange (has_office c.args.request) c.args.opening.channels c.args.hours.day c.args.request.rate c.args.premises at c.in-Err.ensures.stopped;
   },
 )
