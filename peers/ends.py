@@ -90,7 +90,7 @@ def bx(*words, text=None):
 
 
 def time_of(second):
-    return f"2026-01-05T{second // 3600:02}:{second // 60 % 60:02}:{second % 60:02}Z"
+    return f"2026-01-{5 + second // 86400:02}T{second // 3600 % 24:02}:{second // 60 % 60:02}:{second % 60:02}Z"
 
 
 def write_plan(rows, path, *words):
