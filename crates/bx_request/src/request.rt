@@ -166,6 +166,10 @@ pub struct LiveRequest<'a> {
     pub office: Option<Place<'a>>,
     /// The origin by which a proxy in front of the office is asked, as `https://office.example`, where there is one.
     pub origin: Option<&'a str>,
+    /// Where the counter of the office listens, at which customers are let in, where there is one.
+    pub counter: Option<Place<'a>>,
+    /// The origin by which a proxy in front of the counter is asked, where there is one.
+    pub counter_origin: Option<&'a str>,
     /// The least pay of each started minute of what the office sells, 1 to 1,000,000, where there is one.
     pub rate: Option<u32>,
     pub turns: Option<u32>,

@@ -106,16 +106,16 @@ pub record AreHoursGiven (found : Found) (hours : DayHours) : Type 0 where
   pub paced : IsNumberGiven 32 found (codes "pace") number
   pub pace : hours.pace ≡ unwrap_or number 1
 
--- a socket where no port is given
-abbrev pub IsOfficeGiven : Found → Option Place → Type 0
-IsOfficeGiven found (Some (Port port)) = IsNumberGiven 16 found (codes "office-port") (Some port)
-IsOfficeGiven found (Some (Socket path)) = IsNumberGiven 16 found (codes "office-port") None × (word_given found (codes "office") ≡ Some path.now)
-IsOfficeGiven found None = IsNumberGiven 16 found (codes "office-port") None × (word_given found (codes "office") ≡ None)
+-- by the names of its two options, a socket where no port is given
+abbrev pub IsDoorGiven : Found → List ℕ → List ℕ → Option Place → Type 0
+IsDoorGiven found socket port (Some (Port number)) = IsNumberGiven 16 found port (Some number)
+IsDoorGiven found socket port (Some (Socket path)) = IsNumberGiven 16 found port None × (word_given found socket ≡ Some path.now)
+IsDoorGiven found socket port None = IsNumberGiven 16 found port None × (word_given found socket ≡ None)
 
--- what is given, or the first of it
-abbrev pub IsOriginGiven : Found → Option (Bor (List ℕ)) → Type 0
-IsOriginGiven found None = word_given found (codes "origin") ≡ None
-IsOriginGiven found (Some origin) = (rest : List ℕ) × (word_given found (codes "origin") ≡ Some (origin.now ++ rest))
+-- what is given for this option, or the first of it
+abbrev pub IsOriginGiven : Found → List ℕ → Option (Bor (List ℕ)) → Type 0
+IsOriginGiven found option None = word_given found option ≡ None
+IsOriginGiven found option (Some origin) = (rest : List ℕ) × (word_given found option ≡ Some (origin.now ++ rest))
 
 -- ---- the requests
 
@@ -158,8 +158,10 @@ pub record IsLiveFilled (found : Found) (request : LiveRequest) : Type 0 where
   pub line : IsLineText (word_given_or [] found (codes "line")) request.line
   pub hours : AreHoursGiven found request.hours
   pub journal : IsWordGiven found (codes "journal") request.journal
-  pub office : IsOfficeGiven found request.office
-  pub origin : IsOriginGiven found request.origin
+  pub office : IsDoorGiven found (codes "office") (codes "office-port") request.office
+  pub origin : IsOriginGiven found (codes "origin") request.origin
+  pub counter : IsDoorGiven found (codes "counter") (codes "counter-port") request.counter
+  pub counter_origin : IsOriginGiven found (codes "counter-origin") request.counter_origin
   pub rate : IsNumberGiven 32 found (codes "rate") request.rate
   pub turns : IsNumberGiven 32 found (codes "turns") request.turns
   pub quiet : IsFlag found (codes "quiet") request.is_quiet

@@ -64,6 +64,9 @@ pub enum Argument {
     Office,
     OfficePort,
     Origin,
+    Counter,
+    CounterPort,
+    CounterOrigin,
     Rate,
     Records,
     Capture,
@@ -145,6 +148,13 @@ const OFFICE_PORT: &str = "The TCP port on 127.0.0.1 for it, in place of a socke
 const ORIGIN: &str =
     "The origin of a proxy in front of it, as https://office.example: who asks by its host is answered too, and its page";
 
+const COUNTER: &str =
+    "The path of a Unix socket for its counter, at which customers see quotes, free times and a form, and book, and nothing else";
+
+const COUNTER_PORT: &str = "The TCP port on 127.0.0.1 for the counter, in place of a socket";
+
+const COUNTER_ORIGIN: &str = "The origin of a proxy in front of the counter";
+
 const RATE: &str =
     "The least pay of each started minute of a call that it sells, 1 to 1000000 [default: none]";
 
@@ -190,6 +200,9 @@ fn name_of<'a>(argument: Argument) -> &'a str {
         Argument::Office => "office",
         Argument::OfficePort => "office-port",
         Argument::Origin => "origin",
+        Argument::Counter => "counter",
+        Argument::CounterPort => "counter-port",
+        Argument::CounterOrigin => "counter-origin",
         Argument::Rate => "rate",
         Argument::Records => "records",
         Argument::Capture => "capture",
@@ -218,9 +231,9 @@ fn value_of<'a>(argument: Argument) -> &'a str {
         | Argument::Pace
         | Argument::FarPace
         | Argument::Rate => "N",
-        Argument::Port | Argument::OfficePort => "P",
-        Argument::Socket | Argument::Office => "PATH",
-        Argument::Origin => "ORIGIN",
+        Argument::Port | Argument::OfficePort | Argument::CounterPort => "P",
+        Argument::Socket | Argument::Office | Argument::Counter => "PATH",
+        Argument::Origin | Argument::CounterOrigin => "ORIGIN",
         Argument::ServedLine | Argument::FarLine => "HERE:THERE",
         Argument::Octets => "HEX",
         Argument::Row => "ROW",
@@ -246,7 +259,7 @@ fn form_of(argument: Argument) -> Form {
         Argument::Turns | Argument::FarTurns => Form::Seconds,
         Argument::Pace | Argument::FarPace => Form::Pace,
         Argument::Rate => Form::Rate,
-        Argument::Port | Argument::OfficePort => Form::Port,
+        Argument::Port | Argument::OfficePort | Argument::CounterPort => Form::Port,
         _ => Form::Optional,
     }
 }
@@ -307,6 +320,9 @@ fn help_of<'a>(argument: Argument) -> &'a str {
         Argument::Office => OFFICE,
         Argument::OfficePort => OFFICE_PORT,
         Argument::Origin => ORIGIN,
+        Argument::Counter => COUNTER,
+        Argument::CounterPort => COUNTER_PORT,
+        Argument::CounterOrigin => COUNTER_ORIGIN,
         Argument::Rate => RATE,
         Argument::Records => RECORDS,
         Argument::Capture => CAPTURE,
@@ -329,9 +345,13 @@ fn needs_of(argument: Argument) -> &'static [&'static str] {
         Argument::FarLine => &["date"],
         Argument::Live | Argument::FarPace | Argument::FarTurns => &["line"],
         Argument::Pace => &["live"],
-        Argument::Office | Argument::OfficePort | Argument::Origin | Argument::Rate => &[
-            "live", "journal",
-        ],
+        Argument::Office
+        | Argument::OfficePort
+        | Argument::Origin
+        | Argument::Counter
+        | Argument::CounterPort
+        | Argument::CounterOrigin
+        | Argument::Rate => &["live", "journal"],
         _ => &[],
     }
 }
@@ -346,6 +366,7 @@ fn conflicts_of(argument: Argument) -> &'static [&'static str] {
         | Argument::FarPace
         | Argument::FarTurns => &["port", "socket"],
         Argument::OfficePort => &["office"],
+        Argument::CounterPort => &["counter"],
         _ => &[],
     }
 }

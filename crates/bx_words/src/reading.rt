@@ -1,11 +1,11 @@
 //! What a command line asks for.
 
-ghost use Rattle.std.specs.Prelude.{◌≡◌, ℕ, Option, [], Err, true, codes, unwrap_or, MatchResult};
+ghost use Rattle.std.specs.Prelude.{◌≡◌, ℕ, Option, [], Err, IfErr, true, codes, unwrap_or, MatchResult};
 ghost use Rattle.clap.specs.Words.{found_of};
 ghost use Rattle.bx_words.specs.Inside.{IsNoHelp, command_word};
 ghost use Rattle.bx_words.specs.Asked.{AreWordsRead, AskForHelp, IsCommandOf, is_help_option};
 ghost use Rattle.bx_words.specs.Filled.{AreHoursGiven, AreRecordsGiven, AreTermsGiven, IsAskedBy, IsCallGiven, IsCaptureGiven, IsDayGiven};
-ghost use Rattle.bx_words.specs.Filled.{IsLineText, IsNumberGiven, IsOfficeGiven, IsOriginGiven, IsPeerGiven, IsPlaceGiven, IsRehearsalFilled};
+ghost use Rattle.bx_words.specs.Filled.{IsLineText, IsDoorGiven, IsNumberGiven, IsOriginGiven, IsPeerGiven, IsPlaceGiven, IsRehearsalFilled};
 ghost use Rattle.bx_words.specs.Filled.{IsSightGiven, word_given_or};
 
 use crate::channel_list::channel_numbers;
@@ -299,39 +299,87 @@ fn line_of(alloc: Global, text: &str) -> Result<LinePorts, Refusal>
     }
 }
 
-/// Where the booking office is to listen that these words want, if they want one.
-fn office_of<'a>(alloc: Global, matches: &ArgMatches<'a>) -> Result<Option<Place<'a>>, Refusal>
-    ensures { MatchResult result (IsOfficeGiven (found_of matches.now)) IsNoHelp }
+/// Where an office or its counter is to listen that these words want, by the names of its two options, if they want one.
+fn door_of<'a>(
+    alloc: Global,
+    matches: &ArgMatches<'a>,
+    socket: &str,
+    port: &str,
+) -> Result<Option<Place<'a>>, Refusal>
+    ensures { MatchResult result (IsDoorGiven (found_of matches.now) socket.now port.now) IsNoHelp }
 {
-    if let Some(port) = matches.get_one::<u16>("office-port") {
+    if let Some(port) = matches.get_one::<u16>(port) {
         return Ok(Some(Place::Port(port)));
     }
-    match matches.get_str("office") {
-        Some("") => Err(wrong(
-            alloc,
-            "invalid value '' for '--office <PATH>': no path is empty",
-        )),
+    match matches.get_str(socket) {
+        Some("") => {
+            let message = format!(in alloc;
+                "invalid value '' for '--{socket} <PATH>': no path is empty"
+            )?;
+            Err(wrong(alloc, &message))
+        }
         Some(path) => Ok(Some(Place::Socket(path))),
         None => Ok(None),
     }
 }
 
-/// The origin that these words name, of a proxy in front of an office that they want.
-fn origin_of<'a>(alloc: Global, matches: &ArgMatches<'a>) -> Result<Option<&'a str>, Refusal>
-    ensures { MatchResult result (IsOriginGiven (found_of matches.now)) IsNoHelp }
+/// The origin that these words name by this option, of a proxy in front of an office or its counter.
+fn origin_of<'a>(
+    alloc: Global,
+    matches: &ArgMatches<'a>,
+    option: &str,
+) -> Result<Option<&'a str>, Refusal>
+    ensures { MatchResult result (IsOriginGiven (found_of matches.now) option.now) IsNoHelp }
 {
-    let Some(text) = matches.get_str("origin") else {
+    let Some(text) = matches.get_str(option) else {
         return Ok(None);
     };
     match origin_in(text) {
         Some(origin) => Ok(Some(origin)),
         None => {
             let message = format!(in alloc;
-                "invalid value '{text}' for '--origin <ORIGIN>': not http:// or https://, a host, and a port where it has one"
+                "invalid value '{text}' for '--{option} <ORIGIN>': not http:// or https://, a host, and a port where it has one"
             )?;
             Err(wrong(alloc, &message))
         }
     }
+}
+
+/// The refusal of an option that stands only beside one of two others, with which a door is opened.
+fn lone(alloc: Global, option: &str, door: &str) -> Result<Refusal, Refusal>
+    ensures { MatchResult result IsNoHelp IsNoHelp }
+{
+    let message = format!(in alloc;
+        "'--{option}' stands only beside '--{door} <PATH>' or '--{door}-port <P>'"
+    )?;
+    Ok(wrong(alloc, &message))
+}
+
+/// Refuses what stands only beside an office, or only beside its counter, where there is none.
+fn check_doors(
+    alloc: Global,
+    matches: &ArgMatches<'_>,
+    has_office: bool,
+    has_counter: bool,
+) -> Result<(), Refusal>
+    ensures { IfErr result IsNoHelp }
+{
+    if !has_office && matches.get_str("origin").is_some() {
+        return Err(lone(alloc, "origin <ORIGIN>", "office")?);
+    }
+    if !has_office && matches.get_one::<u32>("rate").is_some() {
+        return Err(lone(alloc, "rate <N>", "office")?);
+    }
+    if !has_office && matches.get_str("counter").is_some() {
+        return Err(lone(alloc, "counter <PATH>", "office")?);
+    }
+    if !has_office && has_counter {
+        return Err(lone(alloc, "counter-port <P>", "office")?);
+    }
+    if !has_counter && matches.get_str("counter-origin").is_some() {
+        return Err(lone(alloc, "counter-origin <ORIGIN>", "counter")?);
+    }
+    Ok(())
 }
 
 /// The day that these words want to be run by the clock.
@@ -345,21 +393,11 @@ fn live_request<'a>(alloc: Global, matches: &ArgMatches<'a>) -> Result<Request<'
         ));
     }
     let line = line_of(alloc, word(matches, "line"))?;
-    let office = office_of(alloc, matches)?;
-    let origin = origin_of(alloc, matches)?;
-    if office.is_none() && origin.is_some() {
-        return Err(wrong(
-            alloc,
-            "'--origin <ORIGIN>' stands only beside '--office <PATH>' or '--office-port <P>'",
-        ));
-    }
-    let rate = matches.get_one::<u32>("rate");
-    if office.is_none() && rate.is_some() {
-        return Err(wrong(
-            alloc,
-            "'--rate <N>' stands only beside '--office <PATH>' or '--office-port <P>'",
-        ));
-    }
+    let office = door_of(alloc, matches, "office", "office-port")?;
+    let origin = origin_of(alloc, matches, "origin")?;
+    let counter = door_of(alloc, matches, "counter", "counter-port")?;
+    let counter_origin = origin_of(alloc, matches, "counter-origin")?;
+    check_doors(alloc, matches, office.is_some(), counter.is_some())?;
     Ok(Request::Live(LiveRequest {
         plan: word(matches, "plan"),
         line,
@@ -367,7 +405,9 @@ fn live_request<'a>(alloc: Global, matches: &ArgMatches<'a>) -> Result<Request<'
         journal: matches.get_str("journal"),
         office,
         origin,
-        rate,
+        counter,
+        counter_origin,
+        rate: matches.get_one::<u32>("rate"),
         turns: matches.get_one::<u32>("turns"),
         is_quiet: matches.get_flag("quiet"),
     }))
