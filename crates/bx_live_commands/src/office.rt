@@ -6,7 +6,7 @@ ghost use Rattle.bx_day_openings.specs.OpeningRefusals.{IsUnheard};
 ghost use Rattle.bx_live_commands.specs.LiveDays.{has_office, AreLiveTurns};
 ghost use Rattle.bx_live_commands.specs.LiveInside.{IsOpenAt};
 ghost use Rattle.bx_live_commands.specs.LiveRefusals.{IsNoOffice};
-ghost use Rattle.bx_live_commands.specs.OfficePlaces.{port_behind, socket_behind, place_behind, IsOriginNamed, IsListeningAt};
+ghost use Rattle.bx_live_commands.specs.OfficePlaces.{port_behind, socket_behind, IsOriginNamed, IsListeningAt, IsEntranceAt, IsEntranceWhere};
 ghost use Rattle.bx_office.specs.Targets.{text_of};
 
 use crate::by_office::Premises;
@@ -16,8 +16,8 @@ use bx_day::Exchange;
 use bx_day_openings::{
     AFTER_THE_LAST, DayCommandFault, Hours, System, day_turns, listener_at, unheard,
 };
-use bx_office::{Origin, Place as DoorPlace};
-use bx_office_door::{Door, Listening, Listens, SharedDoor};
+use bx_office::{Address, Origin};
+use bx_office_door::{Door, Entrance, Listening, Listens, SharedDoor};
 use bx_request::{LiveRequest, Place};
 use std::alloc::{AllocError, Global};
 use std::io;
@@ -38,22 +38,22 @@ fn listening<H: System + Listens>(rt: &H, place: Place<'_>) -> io::Result<Listen
 }
 
 /// A port as the door knows it, behind a proxy of this origin where there is one.
-fn port_behind(port: u16, origin: Option<Origin>) -> DoorPlace
+fn port_behind(port: u16, origin: Option<Origin>) -> Address
     ensures { result ≡ port_behind port origin }
 {
     match origin {
-        Some(origin) => DoorPlace::ProxiedPort(port, origin),
-        None => DoorPlace::Port(port),
+        Some(origin) => Address::ProxiedPort(port, origin),
+        None => Address::Port(port),
     }
 }
 
 /// A socket as the door knows it, behind a proxy of this origin where there is one.
-fn socket_behind(origin: Option<Origin>) -> DoorPlace
+fn socket_behind(origin: Option<Origin>) -> Address
     ensures { result ≡ socket_behind origin }
 {
     match origin {
-        Some(origin) => DoorPlace::ProxiedSocket(origin),
-        None => DoorPlace::Socket,
+        Some(origin) => Address::ProxiedSocket(origin),
+        None => Address::Socket,
     }
 }
 
@@ -67,33 +67,63 @@ fn origin_of(text: Option<&str>) -> Option<Origin>
     }
 }
 
-/// A door at a place, behind a proxy of this origin where there is one, of a day that begins then, in nanoseconds since 1970. `CannotListen` where
-/// nobody can be let in there.
-fn door_at<'a, H: System + Listens>(
+/// Where clients come in at a place, behind a proxy of the origin that the words name. `CannotListen` where nobody can be let in there.
+fn entrance_at<'a, H: System + Listens>(
     rt: &H,
     place: Place<'a>,
-    origin: Option<Origin>,
-    opens: u128,
-) -> Result<Door, DayCommandFault<'a>>
-    ensures place { IfOk result (λ door. door.place ≡ place_behind place.entry origin) }
-    ensures opens { IfOk result (λ door. door.opens ≡ opens) }
+    origin: Option<&str>,
+) -> Result<Entrance, DayCommandFault<'a>>
+    ensures entrance { IfOk result (IsEntranceAt (H.listens rt.now) place.entry origin.entry) }
     ensures refused { IfErr result IsUnheard }
 {
+    let origin = origin_of(origin);
     match (listening(rt, place), place) {
-        (Ok(listening), Place::Port(port)) => {
-            let place = port_behind(port, origin);
-            Ok(Door::new(rt.alloc(), place, listening, opens))
-        }
-        (Ok(listening), Place::Socket(_)) => {
-            let place = socket_behind(origin);
-            Ok(Door::new(rt.alloc(), place, listening, opens))
-        }
+        (Ok(listening), Place::Port(port)) => Ok(Entrance {
+            address: port_behind(port, origin),
+            listening,
+        }),
+        (Ok(listening), Place::Socket(_)) => Ok(Entrance {
+            address: socket_behind(origin),
+            listening,
+        }),
         (Err(cause), Place::Port(port)) => {
             let place = SocketAddrV4::new(Ipv4Addr::LOCALHOST, port);
             Err(unheard(rt, &place, &cause))
         }
         (Err(cause), Place::Socket(path)) => Err(unheard(rt, &path, &cause)),
     }
+}
+
+/// Where customers come in, where the words want a counter.
+fn counter_of<'a, H: System + Listens>(
+    rt: &H,
+    request: LiveRequest<'a>,
+) -> Result<Option<Entrance>, DayCommandFault<'a>>
+    ensures entrance { IfOk result (IsEntranceWhere (H.listens rt.now) request.entry.counter request.entry.counter_origin) }
+    ensures refused { IfErr result IsUnheard }
+{
+    match request.counter {
+        Some(place) => Ok(Some(entrance_at(rt, place, request.counter_origin)?)),
+        None => Ok(None),
+    }
+}
+
+/// The door of an office at a place, with that of its counter where the words want one, of a day that begins then, in nanoseconds since
+/// 1970. `CannotListen` where nobody can be let in at one of the two.
+fn door_at<'a, H: System + Listens>(
+    rt: &H,
+    request: LiveRequest<'a>,
+    place: Place<'a>,
+    opens: u128,
+) -> Result<Door, DayCommandFault<'a>>
+    ensures office { IfOk result (λ door. IsEntranceAt (H.listens rt.now) place.entry request.entry.origin door.office) }
+    ensures counter { IfOk result (λ door. IsEntranceWhere (H.listens rt.now) request.entry.counter request.entry.counter_origin door.counter) }
+    ensures opens { IfOk result (λ door. door.opens ≡ opens) }
+    ensures refused { IfErr result IsUnheard }
+{
+    let office = entrance_at(rt, place, request.origin)?;
+    let counter = counter_of(rt, request)?;
+    Ok(Door::new(rt.alloc(), office, counter, opens))
 }
 
 /// What an office at this door is opened with.
@@ -119,7 +149,7 @@ fn premises_at(
     })
 }
 
-/// What the office that the words want is opened with, where they want one. Without a journal there is none: nothing is sold outside the
+/// What the office that the words want is opened with, where they want one, with its counter. Without a journal there is none: nothing is sold outside the
 /// journal. `CannotListen` where nobody can be let in there, `Command`, as `Memory`, where memory runs out.
 pub(crate) fn premises_of<'a, H: System + Listens>(
     rt: &H,
@@ -133,8 +163,7 @@ pub(crate) fn premises_of<'a, H: System + Listens>(
 {
     match (request.office, request.journal) {
         (Some(place), Some(_)) => {
-            let origin = origin_of(request.origin);
-            let door = door_at(rt, place, origin, hours.schedule.instant(0))?;
+            let door = door_at(rt, request, place, hours.schedule.instant(0))?;
             let rate = request.rate.unwrap_or(0);
             let premises = premises_at(rt.alloc(), door, channels, hours.day, rate)?;
             Ok(Some(premises))

@@ -7,6 +7,8 @@ use Rattle.bx_office.specs.Keys.{is_keyed}
 use Rattle.bx_office.specs.Rows.{IsPlanRow, booking_path}
 use Rattle.bx_office.specs.declared.gate.Place.{Place}
 use Rattle.bx_office.specs.declared.gate.Request.{Request}
+use Rattle.bx_office.specs.declared.gate.Side.{Side}
+use Rattle.bx_office.specs.declared.gate.Side.TheVariants.{Operators, Customers}
 use Rattle.bx_office.specs.declared.gate.Route.{Route}
 use Rattle.bx_office.specs.declared.gate.Route.TheVariants.{Home, Script, Style, Bookings, Quote, Free, Plan, Outcomes, Records, Chart, Metrics, Health, Ready, Office, Cancel, Change}
 use Rattle.bx_office.specs.declared.gate.Refusal.{Refusal}
@@ -71,6 +73,18 @@ abbrev pub is_first : Route → Bool
 is_first (Cancel row) = false
 is_first _ = true
 
+-- what is there on a side: for operators all, and for customers what tells nothing of what others have booked
+abbrev pub is_open : Side → Route → Bool
+is_open Operators route = true
+is_open Customers Home = true
+is_open Customers Script = true
+is_open Customers Style = true
+is_open Customers Bookings = true
+is_open Customers Quote = true
+is_open Customers Free = true
+is_open Customers Health = true
+is_open Customers _ = false
+
 -- the methods that HTTP has for what stands at a path (RFC 9110, section 9.3, and RFC 5789)
 abbrev pub is_known : List ℕ → Bool
 is_known method = bytes_eq method (codes "GET") || bytes_eq method (codes "HEAD") || bytes_eq method (codes "POST") || bytes_eq method (codes "PUT")
@@ -120,18 +134,19 @@ has_body _ = false
 -- each field that stands once does so, and the request names this office and comes from no page of another origin
 pub record IsOwn (place : Place) (q : Question) : Type 0 where
   pub single : q.is_doubled ≡ false
-  pub host : is_own_host place (host_asked q.host q.target) ≡ true
-  pub origin : is_own_origin place (host_asked q.host q.target) q.origin ≡ true
+  pub host : is_own_host place.address (host_asked q.host q.target) ≡ true
+  pub origin : is_own_origin place.address (host_asked q.host q.target) q.origin ≡ true
 
 -- .. and its method is known
 pub record IsMeant (place : Place) (q : Question) : Type 0 where
   pub own : IsOwn place q
   pub known : is_known q.method ≡ true
 
--- .. and it asks for what is there, as that is asked for
+-- .. and it asks for what is there on this side, as that is asked for
 pub record IsAsked (place : Place) (q : Question) (route : Route) : Type 0 where
   pub meant : IsMeant place q
   pub there : StandsAt route (path_asked q.target)
+  pub on_side : is_open place.side route ≡ true
   pub taken : takes route q.method ≡ true
 
 -- .. and that has a body
@@ -147,11 +162,11 @@ is_bare route q = not (has_body route && q.is_coded) && (not (has_body route && 
 abbrev pub IsGated : Place → Question → Result Route Refusal → Type 0
 IsGated place q (Ok route) = IsAsked place q route × (is_typed route q.content ≡ true) × (is_bare route q ≡ true)
 IsGated place q (Err Doubled) = q.is_doubled ≡ true
-IsGated place q (Err OtherHost) = (q.is_doubled ≡ false) × (is_own_host place (host_asked q.host q.target) ≡ false)
-IsGated place q (Err OtherOrigin) = (q.is_doubled ≡ false) × (is_own_host place (host_asked q.host q.target) ≡ true) × (is_own_origin place (host_asked q.host q.target) q.origin ≡ false)
+IsGated place q (Err OtherHost) = (q.is_doubled ≡ false) × (is_own_host place.address (host_asked q.host q.target) ≡ false)
+IsGated place q (Err OtherOrigin) = (q.is_doubled ≡ false) × (is_own_host place.address (host_asked q.host q.target) ≡ true) × (is_own_origin place.address (host_asked q.host q.target) q.origin ≡ false)
 IsGated place q (Err UnknownMethod) = IsOwn place q × (is_known q.method ≡ false)
-IsGated place q (Err NotFound) = IsMeant place q × ((route : Route) → ¬ StandsAt route (path_asked q.target))
-IsGated place q (Err (WrongMethod route)) = IsMeant place q × StandsAt route (path_asked q.target) × (is_first route ≡ true) × (has_method route q.method ≡ false)
+IsGated place q (Err NotFound) = IsMeant place q × ((route : Route) → is_open place.side route ≡ true → ¬ StandsAt route (path_asked q.target))
+IsGated place q (Err (WrongMethod route)) = IsMeant place q × StandsAt route (path_asked q.target) × (is_first route ≡ true) × (is_open place.side route ≡ true) × (has_method route q.method ≡ false)
 IsGated place q (Err NotCsv) = IsSent place q × (is_csv q.content ≡ false)
 IsGated place q (Err Coded) = IsSent place q × (is_csv q.content ≡ true) × (q.is_coded ≡ true)
 IsGated place q (Err NoLength) = IsSent place q × (is_csv q.content ≡ true) × (q.is_coded ≡ false) × (q.has_length ≡ false)

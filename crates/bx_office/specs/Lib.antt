@@ -12,4 +12,5 @@ pub mod Refusals
 pub mod Pages
 pub mod Early
 pub mod Clients
+pub mod Sides
 pub mod Inside

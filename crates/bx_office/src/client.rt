@@ -1,9 +1,10 @@
 //! A client's connection: octets that came, one request at a time, and octets to be sent.
 
-ghost use Rattle.std.specs.Prelude.{◌≤◌, length};
+ghost use Rattle.std.specs.Prelude.{◌≡◌, ◌≤◌, true, length};
+ghost use Rattle.bx_office.specs.Sides.{is_served};
 ghost use Rattle.bx_office.specs.declared.client.TheConstants.{MAX_UNREAD, MAX_BODY};
 
-use crate::gate::{Place, Refusal, Route};
+use crate::gate::{Place, Refusal, Route, Side};
 use crate::heads::{gated, is_head, key_in};
 use crate::keys::Key;
 use crate::refusals::{faulting, giving_up, refusing};
@@ -57,13 +58,15 @@ pub struct Client {
     /// How many octets are kept for the body, from when it is let through until it is answered.
     pub(crate) kept: usize,
     pub(crate) out: BytesMut,
+    ghost served: { is_served place.side stage ≡ true },
     ghost unread_limit: { length unread.items ≤ MAX_UNREAD },
     ghost body_limit: { length body.items ≤ kept },
     ghost kept_limit: { kept ≤ MAX_BODY },
 }
 
 impl Client {
-    ghost use Rattle.std.specs.Prelude.{◌≡◌, ◌⊎◌, ◌++◌, ◌/◌, [], max, min, drop, true, false, IsTrue, IfSome};
+    ghost use Rattle.std.specs.Prelude.{◌⊎◌, ◌++◌, ◌/◌, [], max, min, drop, false, IsTrue, IfSome, IfOk};
+    ghost use Rattle.bx_office.specs.Gate.{is_open};
     ghost use Rattle.httpdate.specs.Date.{unix_secs};
     ghost use Rattle.bx_office.specs.Targets.{query_in};
     ghost use Rattle.httparse.specs.Spans.{IsRequestWithin};
@@ -120,9 +123,17 @@ impl Client {
 
     /// What it is at.
     pub fn stage(&self) -> Stage
-        ensures { result ≡ self.now.stage }
+        ensures value { result ≡ self.now.stage }
+        ensures served { is_served self.now.place.side result ≡ true }
     {
         self.stage
+    }
+
+    /// For whom the door is at which it came in.
+    pub fn side(&self) -> Side
+        ensures { result ≡ self.now.place.side }
+    {
+        self.place.side
     }
 
     /// Whether it has nothing more to do.
@@ -260,6 +271,7 @@ impl Client {
         requires within { IsRequestWithin self.old.unread.items spans.now head.now }
         requires len { head.now.len ≤ length self.old.unread.items }
         ensures taken { IfSome result (IsHeadTaken spans.now head.now self.old self.new) }
+        ensures side { IfSome result (λ verdict. IfOk verdict (λ route. is_open self.old.place.side route ≡ true)) }
         ensures unread { self.new.unread.items ≡ drop head.now.len self.old.unread.items }
         ensures server { self.new.server ≡ self.old.server }
         ensures place { self.new.place ≡ self.old.place }
@@ -337,6 +349,7 @@ impl Client {
 
     /// The request is let through: its body is due, where it is not too long, and no longer than is free.
     fn admit(&mut self, route: Route, free: usize)
+        requires { is_open self.old.place.side route ≡ true }
         ensures stage { IsUndue self.new.stage ⊎ IsBodyDue route self.old self.new }
         ensures place { self.new.place ≡ self.old.place }
         ensures kept { self.new.kept ≤ max self.old.kept free }

@@ -3,7 +3,7 @@
 ghost use Rattle.std.specs.Prelude.{◌≡◌};
 ghost use Rattle.bx_office.specs.Early.{early_health, IsEarlyReply, IsPutOff, IsAtOnce};
 
-use crate::gate::Route;
+use crate::gate::{Route, Side};
 use crate::pages::page;
 use crate::reply::{Allowed, Kind, Reply, Status};
 
@@ -58,12 +58,12 @@ fn before_the_day<'a>(route: Route, eve: Eve<'a>) -> Reply<'a>
     }
 }
 
-/// What is answered at once: the page and its parts; and before the day begins all else, so that nothing waits for hours and is sold then. There
+/// What is answered at once on a side: its page and the parts of that; and before the day begins all else, so that nothing waits for hours and is sold then. There
 /// `/healthz` and `/metrics` are told, and all others when to ask again (RFC 9110, section 10.2.3).
-pub fn at_once<'a>(route: Route, eve: Option<Eve<'a>>) -> Option<Reply<'a>>
+pub fn at_once<'a>(side: Side, route: Route, eve: Option<Eve<'a>>) -> Option<Reply<'a>>
     ensures { IsAtOnce route eve.entry result }
 {
-    match (page(route), eve) {
+    match (page(side, route), eve) {
         (Some(reply), _) => Some(reply),
         (None, Some(eve)) => Some(before_the_day(route, eve)),
         (None, None) => None,

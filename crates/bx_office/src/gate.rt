@@ -1,10 +1,11 @@
 //! Which requests are let through, and where they go.
 
-ghost use Rattle.std.specs.Prelude.{◌≡◌, ◌≤◌, ℕ, List, true, length, IfSome, IfNone};
+ghost use Rattle.std.specs.Prelude.{false, ◌≡◌, ◌≤◌, ℕ, List, true, length, IfSome, IfNone};
 ghost use Rattle.std.specs.Str.{bytes_eq};
 ghost use Rattle.bx_office.specs.Targets.{text_of};
-ghost use Rattle.bx_office.specs.Gate.{StandsAt, is_first, takes, has_method, is_known, ends_type, is_csv, is_csv_type, is_typed, has_body, question_of, IsGated};
+ghost use Rattle.bx_office.specs.Gate.{StandsAt, is_first, is_open, takes, has_method, is_known, ends_type, is_csv, is_csv_type, is_typed, has_body, question_of, IsGated};
 ghost use Rattle.bx_office.specs.RowPaths.{IsRowPath};
+ghost use Rattle.bx_office.specs.declared.gate.Side.TheVariants.{Customers};
 
 use crate::hosts::{is_own_host, is_own_origin};
 use crate::keys::is_keyed;
@@ -12,9 +13,9 @@ use crate::origins::Origin;
 use crate::rows::row_in;
 use crate::targets::{local_path, named_host, past, path_in};
 
-/// Where the office is opened.
+/// Where a door is.
 #[derive(Clone, Copy, Debug, PartialEq, Eq)]
-pub enum Place {
+pub enum Address {
     /// A port of the loopback interface.
     Port(u16),
     /// A socket of the file system.
@@ -23,6 +24,23 @@ pub enum Place {
     ProxiedPort(u16, Origin),
     /// A socket of the file system, to which a proxy hands on what this origin is asked.
     ProxiedSocket(Origin),
+}
+
+/// For whom a door is.
+#[derive(Clone, Copy, Debug, PartialEq, Eq)]
+pub enum Side {
+    /// That of the office, for its operators: all that there is is told there.
+    Operators,
+    /// That of its counter, for its customers: a page, what a call would have to pay, when one may start, and bookings. Of what
+    /// others have booked nothing is told there.
+    Customers,
+}
+
+/// Where a client has come in.
+#[derive(Clone, Copy, Debug, PartialEq, Eq)]
+pub struct Place {
+    pub address: Address,
+    pub side: Side,
 }
 
 /// What is asked for.
@@ -73,7 +91,7 @@ pub enum Refusal {
     OtherOrigin,
     /// 501: its method is none that is known here (RFC 9110, section 9.1).
     UnknownMethod,
-    /// 404: there is no such path.
+    /// 404: there is no such path, or none on this side.
     NotFound,
     /// 405: what stands there is not asked for so. A booking is told by its change.
     WrongMethod(Route),
@@ -120,10 +138,10 @@ fn booking_at(path: &[u8]) -> Option<Route>
     }
 }
 
-/// What stands at a path, or the first of it.
-fn route_at(path: &[u8]) -> Option<Route>
-    ensures some { IfSome result (λ route. StandsAt route path.now × (is_first route ≡ true)) }
-    ensures none { IfNone result ((route : Route) → ¬ StandsAt route path.now) }
+/// What stands at a path for customers too.
+fn shared_at(path: &[u8]) -> Option<Route>
+    ensures some { IfSome result (λ route. StandsAt route path.now × (is_first route ≡ true) × (is_open Customers route ≡ true)) }
+    ensures none { IfNone result ((route : Route) → is_open Customers route ≡ true → ¬ StandsAt route path.now) }
 {
     if is_word(path, "/") {
         Some(Route::Home)
@@ -137,7 +155,19 @@ fn route_at(path: &[u8]) -> Option<Route>
         Some(Route::Quote)
     } else if is_word(path, "/free") {
         Some(Route::Free)
-    } else if is_word(path, "/plan") {
+    } else if is_word(path, "/healthz") {
+        Some(Route::Health)
+    } else {
+        None
+    }
+}
+
+/// What stands at a path for operators alone, or the first of it.
+fn operators_at(path: &[u8]) -> Option<Route>
+    ensures some { IfSome result (λ route. StandsAt route path.now × (is_first route ≡ true)) }
+    ensures none { IfNone result ((route : Route) → is_open Customers route ≡ false → ¬ StandsAt route path.now) }
+{
+    if is_word(path, "/plan") {
         Some(Route::Plan)
     } else if is_word(path, "/outcomes") {
         Some(Route::Outcomes)
@@ -147,14 +177,24 @@ fn route_at(path: &[u8]) -> Option<Route>
         Some(Route::Chart)
     } else if is_word(path, "/metrics") {
         Some(Route::Metrics)
-    } else if is_word(path, "/healthz") {
-        Some(Route::Health)
     } else if is_word(path, "/ready") {
         Some(Route::Ready)
     } else if is_word(path, "*") {
         Some(Route::Office)
     } else {
         booking_at(path)
+    }
+}
+
+/// What stands at a path on this side, or the first of it.
+fn route_at(side: Side, path: &[u8]) -> Option<Route>
+    ensures some { IfSome result (λ route. StandsAt route path.now × (is_first route ≡ true) × (is_open side route ≡ true)) }
+    ensures none { IfNone result ((route : Route) → is_open side route ≡ true → ¬ StandsAt route path.now) }
+{
+    match (shared_at(path), side) {
+        (Some(route), _) => Some(route),
+        (None, Side::Operators) => operators_at(path),
+        (None, Side::Customers) => None,
     }
 }
 
@@ -202,6 +242,7 @@ impl Route {
     fn by(self, method: &[u8]) -> Route
         ensures there { (path : List ℕ) → StandsAt self path → StandsAt result path }
         ensures taken { has_method self method.now ≡ true → is_first self ≡ true → takes result method.now ≡ true }
+        ensures side { (side : Side) → is_open side self ≡ true → is_open side result ≡ true }
     {
         match self {
             Route::Change(row) if is_word(method, "DELETE") => Route::Cancel(row),
@@ -265,8 +306,8 @@ fn is_csv(content: Option<&[u8]>) -> bool
     }
 }
 
-/// Where a request goes. What is let through names this office, was sent by no page of another origin, and asks for what is there as that is
-/// asked for; bookings come as `text/csv`, which a browser sends to another origin only after a question that is not answered here, and what
+/// Where a request goes. What is let through names this office, was sent by no page of another origin, and asks for what is there on its side as
+/// that is asked for; bookings come as `text/csv`, which a browser sends to another origin only after a question that is not answered here, and what
 /// they have as a key is one.
 pub fn let_through(place: Place, request: Request<'_>) -> Result<Route, Refusal>
     ensures { IsGated place (question_of request.entry) result }
@@ -277,16 +318,16 @@ pub fn let_through(place: Place, request: Request<'_>) -> Result<Route, Refusal>
     if request.is_doubled {
         return Err(Refusal::Doubled);
     }
-    if !is_own_host(place, host) {
+    if !is_own_host(place.address, host) {
         return Err(Refusal::OtherHost);
     }
-    if !is_own_origin(place, host, request.origin) {
+    if !is_own_origin(place.address, host, request.origin) {
         return Err(Refusal::OtherOrigin);
     }
     if !is_known(request.method) {
         return Err(Refusal::UnknownMethod);
     }
-    let Some(first) = route_at(local_path(path, absolute)) else {
+    let Some(first) = route_at(place.side, local_path(path, absolute)) else {
         return Err(Refusal::NotFound);
     };
     if !first.has_method(request.method) {

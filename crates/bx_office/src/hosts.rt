@@ -7,7 +7,7 @@ ghost use Rattle.bx_office.specs.Targets.{text_of};
 ghost use Rattle.bx_office.specs.Hosts.{is_loopback, is_own_host, is_host, is_host_of, is_origin_of, is_own_origin};
 ghost use Rattle.bx_office.specs.Origins.{origin_text};
 
-use crate::gate::Place;
+use crate::gate::Address;
 use crate::origins::Origin;
 use crate::targets::past;
 use arrayvec::ArrayVec;
@@ -69,14 +69,14 @@ fn is_host_of(origin: &[u8], host: &[u8]) -> bool
 }
 
 /// Whether the host that a request names is this office.
-pub(crate) fn is_own_host(place: Place, host: Option<&[u8]>) -> bool
-    ensures { result ≡ is_own_host place (text_of host.entry) }
+pub(crate) fn is_own_host(address: Address, host: Option<&[u8]>) -> bool
+    ensures { result ≡ is_own_host address (text_of host.entry) }
 {
-    match (place, host) {
-        (Place::Socket | Place::ProxiedSocket(_), _) => true,
+    match (address, host) {
+        (Address::Socket | Address::ProxiedSocket(_), _) => true,
         (_, None) => false,
-        (Place::Port(port), Some(host)) => is_loopback(port, host),
-        (Place::ProxiedPort(port, outside), Some(host)) => {
+        (Address::Port(port), Some(host)) => is_loopback(port, host),
+        (Address::ProxiedPort(port, outside), Some(host)) => {
             is_loopback(port, host) || is_host_of(outside.octets(), host)
         }
     }
@@ -91,21 +91,21 @@ fn is_outside(outside: &Origin, origin: &[u8]) -> bool
 
 /// Whether a page of this host has such an origin. That of a proxy is its own whatever host it names, and at a port no other is one of the
 /// host of its origin.
-fn is_origin_of(place: Place, host: &[u8], origin: &[u8]) -> bool
-    ensures { result ≡ is_origin_of place host.now origin.now }
+fn is_origin_of(address: Address, host: &[u8], origin: &[u8]) -> bool
+    ensures { result ≡ is_origin_of address host.now origin.now }
 {
-    match place {
-        Place::Port(_) => is_host(past(origin, b"http://"), host),
-        Place::Socket => is_host_of(origin, host),
-        Place::ProxiedPort(port, outside) => is_outside(&outside, origin)
+    match address {
+        Address::Port(_) => is_host(past(origin, b"http://"), host),
+        Address::Socket => is_host_of(origin, host),
+        Address::ProxiedPort(port, outside) => is_outside(&outside, origin)
             || (is_loopback(port, host) && is_host(past(origin, b"http://"), host)),
-        Place::ProxiedSocket(outside) => is_outside(&outside, origin) || is_host_of(origin, host),
+        Address::ProxiedSocket(outside) => is_outside(&outside, origin) || is_host_of(origin, host),
     }
 }
 
 /// Whether no page of another origin has sent the request.
-pub(crate) fn is_own_origin(place: Place, host: Option<&[u8]>, origin: Option<&[u8]>) -> bool
-    ensures { result ≡ is_own_origin place (text_of host.entry) (text_of origin.entry) }
+pub(crate) fn is_own_origin(address: Address, host: Option<&[u8]>, origin: Option<&[u8]>) -> bool
+    ensures { result ≡ is_own_origin address (text_of host.entry) (text_of origin.entry) }
 {
     let Some(origin) = origin else {
         return true;
@@ -113,5 +113,5 @@ pub(crate) fn is_own_origin(place: Place, host: Option<&[u8]>, origin: Option<&[
     let Some(host) = host else {
         return false;
     };
-    is_origin_of(place, host, origin)
+    is_origin_of(address, host, origin)
 }

@@ -16,7 +16,7 @@ mod targets;
 
 pub use client::{Client, Stage};
 pub use early::{Eve, at_once};
-pub use gate::{Place, Refusal, Request, Route, let_through};
+pub use gate::{Address, Place, Refusal, Request, Route, Side, let_through};
 pub use keys::{Key, read_key};
 pub use origins::Origin;
 pub use pages::page;

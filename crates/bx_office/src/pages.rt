@@ -1,25 +1,32 @@
-//! The page of the office, which needs nothing from elsewhere.
+//! The pages of the office and of its counter, which need nothing from elsewhere.
 
 ghost use Rattle.std.specs.Prelude.{◌≡◌, true, false, IfSome, IfNone};
 ghost use Rattle.bx_office.specs.Pages.{is_page, allowed_at};
 ghost use Rattle.bx_office.specs.declared.reply.Status.TheVariants as Statuses;
 
-use crate::gate::Route;
+use crate::gate::{Route, Side};
 use crate::reply::{Allowed, Kind, Reply, Status};
 
-/// The page: figures, what a call would have to pay, and a form to book.
-const HOME: &str = "<!doctype html>
+/// A page: how the day stands, a form in which a call is asked for and booked, and what comes after that.
+macro_rules! page {
+    ($title:literal, $rest:literal) => {
+        concat!(
+            "<!doctype html>
 <html lang=\"en\">
 <head>
 <meta charset=\"utf-8\">
 <meta name=\"viewport\" content=\"width=device-width, initial-scale=1\">
-<title>Booking office</title>
+<title>",
+            $title,
+            "</title>
 <link rel=\"stylesheet\" href=\"/office.css\">
 <script src=\"/office.js\" defer></script>
 </head>
 <body>
 <header>
-<h1>Booking office</h1>
+<h1>",
+            $title,
+            "</h1>
 <p id=\"health\" role=\"status\">Asking the office ...</p>
 </header>
 <main>
@@ -41,7 +48,20 @@ const HOME: &str = "<!doctype html>
 </form>
 <p id=\"answer\" role=\"status\"></p>
 </section>
-<section aria-labelledby=\"day-title\">
+",
+            $rest,
+            "</main>
+</body>
+</html>
+"
+        )
+    };
+}
+
+/// The page of the office, with figures, the day as it goes, and what is promised.
+const OFFICE: &str = page!(
+    "Booking office",
+    "<section aria-labelledby=\"day-title\">
 <h2 id=\"day-title\">The day as it goes</h2>
 <p id=\"age\"></p>
 <div class=\"chart\"><img id=\"chart\" src=\"/chart.svg\" alt=\"Channels over the hours of the day: what is planned, carried and missed\"></div>
@@ -67,10 +87,11 @@ const HOME: &str = "<!doctype html>
 <tbody id=\"promised\"></tbody>
 </table></div>
 </section>
-</main>
-</body>
-</html>
-";
+"
+);
+
+/// The page of the counter.
+const COUNTER: &str = page!("Book a call", "");
 
 const SCRIPT: &str = "\"use strict\";
 const at = (id) => document.getElementById(id);
@@ -246,15 +267,22 @@ const tellAge = () => {
     at(\"age\").textContent = `Age of these figures: ${Math.round((Date.now() - shownAt) / 1000)} s`;
   }
 };
+// Of the day itself the counter has nothing.
+const isOffice = at(\"day-title\") !== null;
+const showDay = async () => {
+  const metrics = await look(\"/metrics\");
+  if (metrics.isFine) {
+    shownAt = Date.now();
+    await tell(metrics.text);
+  }
+  at(\"chart\").src = `/chart.svg?${Date.now()}`;
+};
 const show = async () => {
   try {
-    const metrics = await look(\"/metrics\");
-    if (metrics.isFine) {
-      shownAt = Date.now();
-      await tell(metrics.text);
+    if (isOffice) {
+      await showDay();
     }
     at(\"health\").textContent = inState((await look(\"/healthz\")).text);
-    at(\"chart\").src = `/chart.svg?${Date.now()}`;
   } catch (fault) {
     at(\"health\").textContent = \"The office does not answer.\";
   }
@@ -325,15 +353,17 @@ const promised = (fields) => {
   made.cells[1].append(...buttons);
   return made;
 };
-at(\"search\").addEventListener(\"submit\", (event) => {
-  event.preventDefault();
-  telling(list);
-});
-at(\"chart\").addEventListener(\"error\", () => { at(\"chart\").hidden = true; });
-at(\"chart\").addEventListener(\"load\", () => { at(\"chart\").hidden = false; });
+if (isOffice) {
+  at(\"search\").addEventListener(\"submit\", (event) => {
+    event.preventDefault();
+    telling(list);
+  });
+  at(\"chart\").addEventListener(\"error\", () => { at(\"chart\").hidden = true; });
+  at(\"chart\").addEventListener(\"load\", () => { at(\"chart\").hidden = false; });
+  setInterval(tellAge, 1000);
+}
 show();
 setInterval(show, 7000);
-setInterval(tellAge, 1000);
 ";
 
 const STYLE: &str =
@@ -374,13 +404,21 @@ fn allowed_at(route: Route) -> Allowed
     }
 }
 
-/// What stands at a path whatever the day is: the page with its parts, and which methods there are.
-pub fn page(route: Route) -> Option<Reply<'static>>
+/// The page of a side.
+fn home_of(side: Side) -> &'static str {
+    match side {
+        Side::Operators => OFFICE,
+        Side::Customers => COUNTER,
+    }
+}
+
+/// What stands at a path of a side whatever the day is: its page with its parts, and which methods there are.
+pub fn page(side: Side, route: Route) -> Option<Reply<'static>>
     ensures none { IfNone result (is_page route ≡ false) }
     ensures some { IfSome result (λ reply. (is_page route ≡ true) × (reply.status ≡ Statuses.Fine) × (reply.allowed ≡ allowed_at route)) }
 {
     let (kind, body) = match route {
-        Route::Home => (Kind::Html, HOME),
+        Route::Home => (Kind::Html, home_of(side)),
         Route::Script => (Kind::Script, SCRIPT),
         Route::Style => (Kind::Style, STYLE),
         Route::Office => (Kind::Text, ""),

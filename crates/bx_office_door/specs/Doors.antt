@@ -9,6 +9,8 @@ guests_of door = door.guests.items
 
 -- what stands when nobody comes, goes or is answered
 pub record IsStill (old new : Door) : Type 0 where
+  pub office : new.office ≡ old.office
+  pub counter : new.counter ≡ old.counter
   pub answers : new.answers ≡ old.answers
   pub shown : new.shown ≡ old.shown
   pub heard : new.is_heard ≡ old.is_heard

@@ -4,6 +4,7 @@ pub mod Unmets
 pub mod Guests
 pub mod Places
 pub mod Doors
+pub mod Entering
 pub mod Eves
 pub mod Inside
 pub mod Patience

@@ -1,14 +1,14 @@
-//! The door: a listener, and at most 64 clients, with a few beyond them.
+//! The door: a listener, at a counter another one, and at most 64 clients, with a few beyond them.
 
-ghost use Rattle.std.specs.Prelude.{◌≡◌, ◌+◌, ◌≤◌, true, vec_len};
+ghost use Rattle.std.specs.Prelude.{◌≡◌, ◌+◌, ◌≤◌, true, vec_len, ℕ};
 ghost use Rattle.bx_office_door.specs.Guests.{numbers_of, are_given, kept_of};
 ghost use Rattle.bx_office_door.specs.declared.door.TheConstants.{MAX_GUESTS, SPARE, MAX_KEPT};
 
 use crate::customer::Customer;
 use crate::eves::eve_at;
 use crate::guest::Guest;
-use crate::stream::{Listening, Unmet};
-use bx_office::{Client, Place, Reply, Route, Stage};
+use crate::stream::{Listening, Stream, Unmet};
+use bx_office::{Address, Client, Place, Reply, Route, Side, Stage};
 use std::alloc::Global;
 use std::mem;
 
@@ -18,15 +18,25 @@ const MAX_GUESTS: usize = 64;
 /// How many may come beyond them at a time, of whom each is let to ask for what a monitor asks for; others wait in the queue of the listener.
 const SPARE: usize = 4;
 
+/// So many places customers take at most: the others are left for operators.
+const MAX_CUSTOMERS: usize = 48;
+
 /// The most octets of all bodies together: 32 MiB.
 const MAX_KEPT: usize = 33_554_432;
 
-/// A listener with its clients, each of which has a number that no other one is ever given. Nothing here ever waits.
+/// A listener, and where it is.
+#[derive(Drop)]
+pub struct Entrance {
+    pub address: Address,
+    pub listening: Listening,
+}
+
+/// The listener of an office, and that of its counter where it has one, with their clients, each of which has a number that no other one is ever given. Nothing here ever waits.
 #[derive(Drop)]
 pub struct Door {
     alloc: Global,
-    place: Place,
-    listening: Listening,
+    office: Entrance,
+    counter: Option<Entrance>,
     guests: Vec<Guest>,
     /// How many were let in.
     count: u64,
@@ -48,16 +58,17 @@ pub struct Door {
 }
 
 impl Door {
-    ghost use Rattle.std.specs.Prelude.{◌++◌, ◌-◌, ◌<◌, [], false, None, Some, MatchOption, filter, not, if◌then◌else◌, slice_index_or};
+    ghost use Rattle.std.specs.Prelude.{◌++◌, ◌-◌, ◌<◌, [], false, None, Some, IfSome, MatchOption, filter, not, if◌then◌else◌, slice_index_or};
     ghost use Rattle.bx_office_door.specs.Guests.{first_asked, client_of, given_since, IsAnsweredThere, IsLookedFor};
     ghost use Rattle.bx_office_door.specs.Places.{IsFirstGuest};
     ghost use Rattle.bx_office_door.specs.declared.guest.Guest.{Guest};
     ghost use Rattle.bx_office_door.specs.Doors.{answers_after, guests_of, is_early, IsAttended, IsStill};
+    ghost use Rattle.bx_office_door.specs.Entering.{IsEntrance, AreLetIn, room_on, is_full};
 
     /// A door where nobody stands yet, of a day that begins then, in nanoseconds since 1970.
-    pub fn new(alloc: Global, place: Place, listening: Listening, opens: u128) -> Door
+    pub fn new(alloc: Global, office: Entrance, counter: Option<Entrance>, opens: u128) -> Door
         ensures nobody { guests_of result ≡ [] }
-        ensures place { result.place ≡ place }
+        ensures entrances { (result.office ≡ office) × (result.counter ≡ counter) }
         ensures opens { result.opens ≡ opens }
         ensures figures { result.figures ≡ None }
         ensures lacked { result.has_lacked ≡ false }
@@ -66,8 +77,8 @@ impl Door {
     {
         Door {
             alloc,
-            place,
-            listening,
+            office,
+            counter,
             guests: Vec::new(alloc),
             count: 0,
             has_lacked: false,
@@ -79,28 +90,60 @@ impl Door {
         }
     }
 
-    /// Lets in who waits, while there is room and there are numbers: to the places, and a few beyond them.
+    /// Who waits on this side, and where it has come in.
+    fn next_on(&mut self, side: Side) -> Option<(Place, Stream)>
+        ensures entered { IfSome result (λ came. IsEntrance self.old came.0) }
+        ensures side { IfSome result (λ came. came.0.side ≡ side) }
+        ensures rest { self.new ≡ record self.old { has_lacked = self.new.has_lacked } }
+    {
+        let (address, accepted) = match (side, &self.counter) {
+            (Side::Operators, _) => (self.office.address, self.office.listening.accept()),
+            (Side::Customers, Some(counter)) => (counter.address, counter.listening.accept()),
+            (Side::Customers, None) => return None,
+        };
+        match accepted {
+            Ok(stream) => Some((Place { address, side }, stream)),
+            Err(unmet) => {
+                self.has_lacked = self.has_lacked || unmet == Unmet::NoDescriptor;
+                None
+            }
+        }
+    }
+
+    /// Who waits where there is room for it: for operators at the places, and a few beyond them, and else for customers at theirs.
+    fn next_in(&mut self) -> Option<(Place, Stream)>
+        ensures entered { IfSome result (λ came. IsEntrance self.old came.0) }
+        ensures room { IfSome result (λ came. vec_len self.old.guests < room_on came.0.side) }
+        ensures rest { self.new ≡ record self.old { has_lacked = self.new.has_lacked } }
+    {
+        let count = self.guests.len();
+        if count < MAX_GUESTS + SPARE {
+            if let Some(came) = self.next_on(Side::Operators) {
+                return Some(came);
+            }
+        }
+        if count < MAX_CUSTOMERS {
+            return self.next_on(Side::Customers);
+        }
+        None
+    }
+
+    /// Lets in who waits, while there is room and there are numbers.
     fn let_in(&mut self, now: u128)
+        ensures entered { AreLetIn self.old self.new }
         ensures count { self.old.count ≤ self.new.count }
         ensures numbers { numbers_of (guests_of self.new) ≡ numbers_of (guests_of self.old) ++ given_since self.old.count self.new.count }
         ensures others { IsStill self.old self.new }
     {
         for _guest in 0..MAX_GUESTS {
-            if self.guests.len() >= MAX_GUESTS + SPARE {
-                return;
-            }
             let is_spare = self.guests.len() >= MAX_GUESTS;
             let Some(number) = self.count.checked_add(1) else {
                 return;
             };
-            let stream = match self.listening.accept() {
-                Ok(stream) => stream,
-                Err(unmet) => {
-                    self.has_lacked = self.has_lacked || unmet == Unmet::NoDescriptor;
-                    return;
-                }
+            let Some((place, stream)) = self.next_in() else {
+                return;
             };
-            let guest = Guest::new(self.alloc, self.place, number, stream, now, is_spare);
+            let guest = Guest::new(self.alloc, place, number, stream, now, is_spare);
             if self.guests.push(guest).is_err() {
                 return;
             }
@@ -130,6 +173,16 @@ impl Door {
         MAX_KEPT.saturating_sub(others)
     }
 
+    /// Whether all places of this side are taken, so that others may wait there.
+    fn is_full(&self, side: Side) -> bool
+        ensures { result ≡ is_full side (vec_len self.now.guests) }
+    {
+        match side {
+            Side::Operators => self.guests.len() > MAX_GUESTS,
+            Side::Customers => self.guests.len() >= MAX_CUSTOMERS,
+        }
+    }
+
     /// Moves what is ready of each client. Before the day begins nobody waits for an answer after it.
     fn go_on(&mut self, now: u128)
         ensures early { now < self.old.opens → first_asked (guests_of self.new) ≡ None }
@@ -137,8 +190,8 @@ impl Door {
         ensures numbers { numbers_of (guests_of self.new) ≡ numbers_of (guests_of self.old) }
         ensures others { IsStill self.old self.new }
     {
-        let is_full = self.guests.len() > MAX_GUESTS;
         for index in 0..self.guests.len() {
+            let is_full = self.is_full(self.guests[index].client().side());
             let free = self.free_at(index);
             let eve = eve_at(self.opens, now, self.is_heard, &self.figures);
             self.guests[index].attend(now, is_full, free, eve);

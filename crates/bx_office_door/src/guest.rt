@@ -153,7 +153,7 @@ impl Guest {
             return self.client.dismiss(crowded());
         }
         if let Stage::Asked(route) = stage
-            && let Some(reply) = at_once(route, eve)
+            && let Some(reply) = at_once(self.client.side(), route, eve)
         {
             self.client.answer(reply);
         }

@@ -11,7 +11,7 @@ mod stream;
 mod wire;
 
 pub use customer::Customer;
-pub use door::Door;
+pub use door::{Door, Entrance};
 pub use guest::Guest;
 pub use listens::Listens;
 pub use shared::{Lends, SharedDoor};

@@ -1,7 +1,7 @@
 //! Clients at the door, over sockets of this machine and in one thread. The clock is what a test says.
 
-use bx_office::{Allowed, Kind, Place, Reply, Route, Status};
-use bx_office_door::{Door, Listening};
+use bx_office::{Address, Allowed, Kind, Reply, Route, Status};
+use bx_office_door::{Door, Entrance, Listening};
 use std::alloc::Global;
 use std::fs::remove_file;
 use std::io;
@@ -13,6 +13,20 @@ use std::time::Duration;
 
 /// A second, in nanoseconds.
 const SECOND: u128 = 1_000_000_000;
+
+/// Where clients come in, and its port.
+fn entrance<H: Net<Listener = TcpListener, Stream = TcpStream>>(
+    rt: &H,
+) -> io::Result<(Entrance, u16)> {
+    let listener = TcpListener::bind(rt, "127.0.0.1:0")?;
+    listener.set_nonblocking(true)?;
+    let port = listener.local_addr()?.port();
+    let entrance = Entrance {
+        address: Address::Port(port),
+        listening: Listening::Port(listener),
+    };
+    Ok((entrance, port))
+}
 
 /// A door at a port that the system has chosen, and the port. Its day has begun.
 fn opened<H: Net<Listener = TcpListener, Stream = TcpStream>>(
@@ -28,11 +42,20 @@ fn opened_until<H: Net<Listener = TcpListener, Stream = TcpStream>>(
     alloc: Global,
     opens: u128,
 ) -> io::Result<(Door, u16)> {
-    let listener = TcpListener::bind(rt, "127.0.0.1:0")?;
-    listener.set_nonblocking(true)?;
-    let port = listener.local_addr()?.port();
-    let door = Door::new(alloc, Place::Port(port), Listening::Port(listener), opens);
+    let (office, port) = entrance(rt)?;
+    let door = Door::new(alloc, office, None, opens);
     Ok((door, port))
+}
+
+/// A door with a counter, and the ports of the two.
+fn with_counter<H: Net<Listener = TcpListener, Stream = TcpStream>>(
+    rt: &H,
+    alloc: Global,
+) -> io::Result<(Door, u16, u16)> {
+    let (office, port) = entrance(rt)?;
+    let (counter, counter_port) = entrance(rt)?;
+    let door = Door::new(alloc, office, Some(counter), 0);
+    Ok((door, port, counter_port))
 }
 
 /// A client that has sent this.
@@ -274,6 +297,56 @@ fn a_monitor_is_answered_beyond_the_places(rt: HostRuntime) -> Result<(), Fail> 
     let figures = request(rt.alloc(), "/metrics", port)?;
     let _two = client(&rt, port, &figures)?;
     assert!(rt; asks(&mut door, 0) == Some(Route::Metrics), "figures");
+    Ok(())
+}
+
+#[test]
+fn customers_are_told_nothing_of_the_day(rt: HostRuntime) -> Result<(), Fail> {
+    let (mut door, port, counter) = with_counter(&rt, rt.alloc())?;
+    let plan = request(rt.alloc(), "/plan", counter)?;
+    let mut one = client(&rt, counter, &plan)?;
+    assert!(rt;
+        begins(&mut door, &mut one, 0, b"HTTP/1.1 404 Not Found\r\n"),
+        "the plan at the counter"
+    );
+    let quote = request(rt.alloc(), "/quote?start=1&end=2", counter)?;
+    let _two = client(&rt, counter, &quote)?;
+    assert!(rt;
+        asks(&mut door, 0) == Some(Route::Quote),
+        "a quote at the counter"
+    );
+    let plan = request(rt.alloc(), "/plan", port)?;
+    let _three = client(&rt, port, &plan)?;
+    assert!(rt;
+        asks(&mut door, 0) == Some(Route::Plan),
+        "the plan at the office"
+    );
+    Ok(())
+}
+
+#[test]
+fn customers_leave_places_for_operators(rt: HostRuntime) -> Result<(), Fail> {
+    let (mut door, port, counter) = with_counter(&rt, rt.alloc())?;
+    let _silent = silent(&rt, rt.alloc(), &mut door, counter, 100)?;
+    let plan = request(rt.alloc(), "/plan", port)?;
+    let _one = client(&rt, port, &plan)?;
+    assert!(rt;
+        asks(&mut door, 0) == Some(Route::Plan),
+        "an operator is let in"
+    );
+    let page = request(rt.alloc(), "/", counter)?;
+    let mut last = client(&rt, counter, &page)?;
+    assert!(rt;
+        !begins(&mut door, &mut last, SECOND, b""),
+        "a customer waits"
+    );
+    for _turn in 0..20u32 {
+        door.attend(SECOND + 1, false);
+    }
+    assert!(rt;
+        begins(&mut door, &mut last, 2 * SECOND + 2, b"HTTP/1.1 200 OK"),
+        "the silent ones are sent away"
+    );
     Ok(())
 }
 
@@ -529,7 +602,11 @@ fn who_has_hung_up_at_a_path_is_no_customer(rt: HostRuntime) -> Result<(), Fail>
     let _ = remove_file(&rt, path.as_str());
     let listener = UnixListener::bind(&rt, path.as_str())?;
     listener.set_nonblocking(true)?;
-    let mut door = Door::new(rt.alloc(), Place::Socket, Listening::Path(listener), 0);
+    let office = Entrance {
+        address: Address::Socket,
+        listening: Listening::Path(listener),
+    };
+    let mut door = Door::new(rt.alloc(), office, None, 0);
     let mut one = UnixStream::connect(&rt, path.as_str())?;
     one.write_all(b"GET /plan HTTP/1.1\r\nHost: localhost\r\n\r\n")?;
     assert!(rt; who_asks(&mut door) == Some(1), "it asks");

@@ -1,6 +1,6 @@
 //! Whole exchanges of octets, in pieces of several sizes.
 
-use bx_office::{Allowed, Client, Kind, Place, Reply, Route, Stage, Status};
+use bx_office::{Address, Allowed, Client, Kind, Place, Reply, Route, Side, Stage, Status};
 use std::alloc::{AllocError, Global};
 
 /// An exchange: its name, what the client sends, and what it is sent, where `~` stands for the fields that each answer begins with. What is let
@@ -370,12 +370,18 @@ fn advance(alloc: Global, client: &mut Client, free: usize) -> Result<(), AllocE
     Ok(())
 }
 
+/// Where the client comes in.
+const PLACE: Place = Place {
+    address: Address::Port(8080),
+    side: Side::Operators,
+};
+
 /// The most octets that a body has.
 const MAX_BODY: usize = 4_194_304;
 
 /// Gives a client octets in pieces of this size, where so many octets of a body may be kept, and gathers what it is sent.
 fn exchange(alloc: Global, sent: &[u8], size: usize, free: usize) -> Result<Vec<u8>, AllocError> {
-    let mut client = Client::new(alloc, Place::Port(8080));
+    let mut client = Client::new(alloc, PLACE);
     client.set_clock(SHOWN);
     let mut got = Vec::new(alloc);
     let mut rest = sent;

@@ -1,11 +1,11 @@
 //! Which requests are let through.
 
-use bx_office::{Origin, Place, Refusal, Request, Route, let_through};
+use bx_office::{Address, Origin, Place, Refusal, Request, Route, Side, let_through};
 
 /// A request: its name, the place, the method, the target, the host, the origin, the content type, and where it goes.
 type Case = (
     &'static str,
-    Place,
+    Address,
     &'static str,
     &'static str,
     &'static str,
@@ -14,7 +14,7 @@ type Case = (
     Result<Route, Refusal>,
 );
 
-const PORT: Place = Place::Port(8080);
+const PORT: Address = Address::Port(8080);
 
 const FOUND: Refusal = Refusal::NotFound;
 
@@ -261,7 +261,7 @@ static CASES: [Case; 82] = [
     ),
     (
         "the port of HTTP",
-        Place::Port(80),
+        Address::Port(80),
         "GET",
         "/",
         "localhost",
@@ -271,7 +271,7 @@ static CASES: [Case; 82] = [
     ),
     (
         "the port of HTTP, named",
-        Place::Port(80),
+        Address::Port(80),
         "GET",
         "/",
         "127.0.0.1:80",
@@ -321,7 +321,7 @@ static CASES: [Case; 82] = [
     ),
     (
         "a socket, any host",
-        Place::Socket,
+        Address::Socket,
         "GET",
         "/plan",
         "example.org",
@@ -331,7 +331,7 @@ static CASES: [Case; 82] = [
     ),
     (
         "a socket, its page by TLS",
-        Place::Socket,
+        Address::Socket,
         "GET",
         "/",
         "example.org",
@@ -341,7 +341,7 @@ static CASES: [Case; 82] = [
     ),
     (
         "a socket, another page",
-        Place::Socket,
+        Address::Socket,
         "GET",
         "/",
         "example.org",
@@ -631,7 +631,7 @@ static CASES: [Case; 82] = [
     ),
     (
         "a row at a socket",
-        Place::Socket,
+        Address::Socket,
         "DELETE",
         "/bookings/17",
         "example.org",
@@ -864,10 +864,22 @@ fn request(case: &Case) -> Request<'static> {
     }
 }
 
+/// Where operators come in.
+fn office_at(address: Address) -> Place {
+    Place {
+        address,
+        side: Side::Operators,
+    }
+}
+
 #[test]
 fn requests_go_where_they_may(rt: HostRuntime) {
     for case in &CASES {
-        assert!(rt; let_through(case.1, request(case)) == case.7, "{}", case.0);
+        assert!(rt;
+            let_through(office_at(case.1), request(case)) == case.7,
+            "{}",
+            case.0
+        );
     }
 }
 
@@ -1003,7 +1015,11 @@ fn bodied(body: &Body) -> Request<'static> {
 #[test]
 fn bodies_are_let_through(rt: HostRuntime) {
     for body in &BODIES {
-        assert!(rt; let_through(PORT, bodied(body)) == body.6, "{}", body.0);
+        assert!(rt;
+            let_through(office_at(PORT), bodied(body)) == body.6,
+            "{}",
+            body.0
+        );
     }
 }
 
@@ -1222,12 +1238,12 @@ static PROXIED: [Proxied; 25] = [
 ];
 
 /// Where the office of such a request is.
-fn proxied(case: &Proxied) -> Option<Place> {
+fn proxied(case: &Proxied) -> Option<Address> {
     let origin = Origin::new(case.1.as_bytes())?;
     if case.2 {
-        return Some(Place::ProxiedPort(8080, origin));
+        return Some(Address::ProxiedPort(8080, origin));
     }
-    Some(Place::ProxiedSocket(origin))
+    Some(Address::ProxiedSocket(origin))
 }
 
 /// Whether it goes where it is to go.
@@ -1244,7 +1260,7 @@ fn goes_there(case: &Proxied) -> bool {
         has_length: false,
     };
     match proxied(case) {
-        Some(place) => let_through(place, request) == case.5,
+        Some(address) => let_through(office_at(address), request) == case.5,
         None => false,
     }
 }
@@ -1263,4 +1279,79 @@ fn origins_have_255_octets(rt: HostRuntime) {
     assert!(rt;
         matches!(Origin::new(&text[..255]), Some(origin) if origin.octets() == &text[..255])
     );
+}
+
+/// A request at the counter: its name, the method, the target, and where it goes.
+type Asked = (
+    &'static str,
+    &'static str,
+    &'static str,
+    Result<Route, Refusal>,
+);
+
+static AT_THE_COUNTER: [Asked; 22] = [
+    ("its page", "GET", "/", Ok(Route::Home)),
+    ("its script", "GET", "/office.js", Ok(Route::Script)),
+    ("its style", "GET", "/office.css", Ok(Route::Style)),
+    ("bookings", "POST", "/bookings", Ok(Route::Bookings)),
+    ("a quote", "GET", "/quote?start=1&end=2", Ok(Route::Quote)),
+    ("free times", "GET", "/free?length=60", Ok(Route::Free)),
+    ("how the day goes", "HEAD", "/healthz", Ok(Route::Health)),
+    ("the plan", "GET", "/plan", Err(FOUND)),
+    ("outcomes", "GET", "/outcomes", Err(FOUND)),
+    ("records", "GET", "/records", Err(FOUND)),
+    ("the picture", "GET", "/chart.svg", Err(FOUND)),
+    ("figures", "GET", "/metrics", Err(FOUND)),
+    (
+        "whether a call could be carried",
+        "GET",
+        "/ready",
+        Err(FOUND),
+    ),
+    ("all methods", "OPTIONS", "*", Err(FOUND)),
+    ("a booking is given up", "DELETE", "/bookings/1", Err(FOUND)),
+    ("a booking is changed", "PUT", "/bookings/65535", Err(FOUND)),
+    ("a booking is got", "GET", "/bookings/1", Err(FOUND)),
+    ("the plan is posted", "POST", "/plan", Err(FOUND)),
+    ("no such path", "GET", "/booking", Err(FOUND)),
+    (
+        "bookings are got",
+        "GET",
+        "/bookings",
+        Err(Refusal::WrongMethod(Route::Bookings)),
+    ),
+    (
+        "a quote is posted",
+        "POST",
+        "/quote",
+        Err(Refusal::WrongMethod(Route::Quote)),
+    ),
+    ("no method", "BOOK", "/plan", Err(Refusal::UnknownMethod)),
+];
+
+/// Where such a request goes.
+fn verdict_at_the_counter(asked: &Asked) -> Result<Route, Refusal> {
+    let place = Place {
+        address: PORT,
+        side: Side::Customers,
+    };
+    let request = Request {
+        method: asked.1.as_bytes(),
+        target: asked.2.as_bytes(),
+        host: Some(b"localhost:8080"),
+        origin: None,
+        content: Some(b"text/csv"),
+        key: None,
+        is_doubled: false,
+        is_coded: false,
+        has_length: true,
+    };
+    let_through(place, request)
+}
+
+#[test]
+fn customers_see_nothing_of_the_day(rt: HostRuntime) {
+    for asked in &AT_THE_COUNTER {
+        assert!(rt; verdict_at_the_counter(asked) == asked.3, "{}", asked.0);
+    }
 }

@@ -1,7 +1,13 @@
 //! The keys of requests.
 
-use bx_office::{Allowed, Client, Kind, Place, Reply, Stage, Status, read_key};
+use bx_office::{Address, Allowed, Client, Kind, Place, Reply, Side, Stage, Status, read_key};
 use std::alloc::{AllocError, Global};
+
+/// Where the client comes in.
+const PLACE: Place = Place {
+    address: Address::Port(8080),
+    side: Side::Operators,
+};
 
 /// A value of the field: its name, what it is, and the key that it says, or nothing.
 struct Case {
@@ -233,7 +239,7 @@ fn is_kept(
 
 /// Whether either request of a client has its key.
 fn are_kept(alloc: Global, asked: &Asked) -> Result<bool, AllocError> {
-    let mut client = Client::new(alloc, Place::Port(8080));
+    let mut client = Client::new(alloc, PLACE);
     let is_first = is_kept(alloc, &mut client, asked.1[0], asked.2[0].as_bytes())?;
     let is_second = is_kept(alloc, &mut client, asked.1[1], asked.2[1].as_bytes())?;
     Ok(is_first && is_second)

@@ -7,8 +7,8 @@ use bx_day::{Exchange, GivenUp};
 use bx_events::Amendment;
 use bx_live::Begin;
 use bx_market::run_market;
-use bx_office::Place;
-use bx_office_door::{Door, Listening, SharedDoor};
+use bx_office::Address;
+use bx_office_door::{Door, Entrance, Listening, SharedDoor};
 use bx_office_world::{Ledger, Office, OfficeWorld, Opened};
 use bx_sales::{Tag, none_given_up, note};
 use bx_worked_days::{Row, exchange_of};
@@ -30,7 +30,11 @@ pub(crate) fn opened<H: Net<Listener = TcpListener, Stream = TcpStream>>(
     let listener = TcpListener::bind(rt, "127.0.0.1:0")?;
     listener.set_nonblocking(true)?;
     let port = listener.local_addr()?.port();
-    let door = Door::new(alloc, Place::Port(port), Listening::Port(listener), 0);
+    let office = Entrance {
+        address: Address::Port(port),
+        listening: Listening::Port(listener),
+    };
+    let door = Door::new(alloc, office, None, 0);
     match SharedDoor::new(alloc, door) {
         Ok(door) => Ok((door, port)),
         Err(_) => Err(io::Error::from(io::ErrorKind::OutOfMemory)),

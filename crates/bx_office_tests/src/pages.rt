@@ -1,6 +1,6 @@
-//! What the page of the office says of an answer.
+//! What the pages of the office and of its counter say.
 
-use bx_office::{Route, at_once};
+use bx_office::{Route, Side, at_once};
 
 /// What the script has, and how often.
 type Part = (&'static str, &'static str, usize);
@@ -65,7 +65,7 @@ static PARTS: [Part; 15] = [
     ),
     (
         "the figures are as old as their answer",
-        "if (metrics.isFine) {\n      shownAt = Date.now();\n      await tell(metrics.text);\n    }\n",
+        "if (metrics.isFine) {\n    shownAt = Date.now();\n    await tell(metrics.text);\n  }\n",
         1,
     ),
     ("no other figures are", "shownAt = ", 2),
@@ -84,11 +84,63 @@ fn count_in(text: &[u8], part: &[u8]) -> usize {
 
 #[test]
 fn the_page_says_what_was_answered(rt: HostRuntime) {
-    let reply = at_once(Route::Script, None);
+    let reply = at_once(Side::Operators, Route::Script, None);
     assert!(rt; reply.is_some(), "there is a script");
     if let Some(reply) = reply {
         for (name, part, count) in &PARTS {
             assert!(rt; count_in(reply.body, part.as_bytes()) == *count, "{name}");
         }
+    }
+}
+
+/// What a page has: the name, the side, the text, and how often.
+type Shown = (&'static str, Side, &'static str, usize);
+
+static SHOWN: [Shown; 13] = [
+    ("a form", Side::Operators, "<form id=\"call\">", 1),
+    (
+        "a form for customers",
+        Side::Customers,
+        "<form id=\"call\">",
+        1,
+    ),
+    ("its end", Side::Operators, "</main>\n</body>\n</html>\n", 1),
+    (
+        "the end of that for customers",
+        Side::Customers,
+        "</main>\n</body>\n</html>\n",
+        1,
+    ),
+    ("the day", Side::Operators, "id=\"day-title\"", 1),
+    ("the plan", Side::Operators, "href=\"/plan\"", 1),
+    ("what is promised", Side::Operators, "id=\"promised\"", 1),
+    ("no day for customers", Side::Customers, "day-title", 0),
+    ("no picture for customers", Side::Customers, "chart", 0),
+    (
+        "no other's bookings for customers",
+        Side::Customers,
+        "promised",
+        0,
+    ),
+    ("no links for customers", Side::Customers, "<a ", 0),
+    (
+        "a script for customers",
+        Side::Customers,
+        "src=\"/office.js\"",
+        1,
+    ),
+    ("a title for customers", Side::Customers, "Book a call", 2),
+];
+
+/// How often the page of its side has it.
+fn count_on(shown: &Shown) -> Option<usize> {
+    let reply = at_once(shown.1, Route::Home, None)?;
+    Some(count_in(reply.body, shown.2.as_bytes()))
+}
+
+#[test]
+fn customers_have_a_page_of_their_own(rt: HostRuntime) {
+    for shown in &SHOWN {
+        assert!(rt; count_on(shown) == Some(shown.3), "{}", shown.0);
     }
 }

@@ -1,8 +1,8 @@
 //! How long a wire with a door beside it waits at once.
 
 use bx_line_world::Wire;
-use bx_office::Place;
-use bx_office_door::{Door, Listening, OfficeWire, SharedDoor};
+use bx_office::Address;
+use bx_office_door::{Door, Entrance, Listening, OfficeWire, SharedDoor};
 use std::alloc::Global;
 use std::net::{Net, TcpListener, TcpStream};
 use std::test::Fail;
@@ -50,7 +50,8 @@ fn beside<H: Net<Listener = TcpListener, Stream = TcpStream>>(
     alloc: Global,
 ) -> Result<OfficeWire<QuietWire, SharedDoor>, Fail> {
     let listening = Listening::at_port(rt, 0)?;
-    let door = Door::new(alloc, Place::Port(0), listening, 0);
+    let address = Address::Port(0);
+    let door = Door::new(alloc, Entrance { address, listening }, None, 0);
     let shared = SharedDoor::new(alloc, door)?;
     Ok(OfficeWire::new(QuietWire { waited: 0 }, shared))
 }

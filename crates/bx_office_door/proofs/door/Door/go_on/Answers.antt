@@ -20,7 +20,7 @@ loop-index-preserved c =
       count = c.loop-index.invariant.count;
       many = c.loop-index.invariant.many;
       numbers = same ∙ c.loop-index.invariant.numbers;
-      others = record { answers = c.loop-index.invariant.others.answers; shown = c.loop-index.invariant.others.shown; heard = c.loop-index.invariant.others.heard; opens = c.loop-index.invariant.others.opens; figures = c.loop-index.invariant.others.figures };
+      others = record { office = c.loop-index.invariant.others.office; counter = c.loop-index.invariant.others.counter; answers = c.loop-index.invariant.others.answers; shown = c.loop-index.invariant.others.shown; heard = c.loop-index.invariant.others.heard; opens = c.loop-index.invariant.others.opens; figures = c.loop-index.invariant.others.figures };
       early = λ lt. quiet_more c.loop-index.self.guests.items c.loop-index.index c.attend.new.self (omega (arith, c.loop-index.invariant.many)) (c.loop-index.invariant.early lt)
           (c.attend.ensures.early (eve_there c.loop-index.self.opens c.args.now c.loop-index.self.is_heard _ _ c.eve_at-eve.ensures (subst (λ (opens : ℕ). c.args.now < opens) (sym c.loop-index.invariant.others.opens) lt)));
     }
