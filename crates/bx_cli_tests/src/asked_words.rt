@@ -166,7 +166,7 @@ static PLANNED: [Asked; 17] = [
     },
 ];
 
-static RUN: [Asked; 16] = [
+static RUN: [Asked; 18] = [
     Asked {
         name: "a day, by all options",
         words: &[
@@ -260,7 +260,7 @@ static RUN: [Asked; 16] = [
             "41",
             "--quiet",
         ],
-        request: "live plan.txt line 9932 to 9933 on 2026-02-03 UTC-11 pace 20 journal live.journal office socket office.sock origin https://office.example rate 12 turns 41 quiet true",
+        request: "live plan.txt line 9932 to 9933 on 2026-02-03 UTC-11 pace 20 journal live.journal office socket office.sock origin https://office.example counter none origin none rate 12 turns 41 quiet true",
     },
     Asked {
         name: "a live day, by an office at a port alone",
@@ -277,7 +277,47 @@ static RUN: [Asked; 16] = [
             "--office-port",
             "9934",
         ],
-        request: "live plan.txt line 9933 to 9932 on 2026-02-03 UTC0 pace 1 journal live.journal office port 9934 origin none rate none turns none quiet false",
+        request: "live plan.txt line 9933 to 9932 on 2026-02-03 UTC0 pace 1 journal live.journal office port 9934 origin none counter none origin none rate none turns none quiet false",
+    },
+    Asked {
+        name: "a live day, by all options of a counter",
+        words: &[
+            "serve",
+            "plan.txt",
+            "--live",
+            "--line",
+            "9933:9932",
+            "--date",
+            "2026-02-03",
+            "--journal",
+            "live.journal",
+            "--office",
+            "office.sock",
+            "--counter-port",
+            "9935",
+            "--counter-origin",
+            "https://calls.example",
+        ],
+        request: "live plan.txt line 9933 to 9932 on 2026-02-03 UTC0 pace 1 journal live.journal office socket office.sock origin none counter port 9935 origin https://calls.example rate none turns none quiet false",
+    },
+    Asked {
+        name: "a live day, by a counter at a socket",
+        words: &[
+            "serve",
+            "plan.txt",
+            "--live",
+            "--line",
+            "9933:9932",
+            "--date",
+            "2026-02-03",
+            "--journal",
+            "live.journal",
+            "--office-port",
+            "9934",
+            "--counter",
+            "counter.sock",
+        ],
+        request: "live plan.txt line 9933 to 9932 on 2026-02-03 UTC0 pace 1 journal live.journal office port 9934 origin none counter socket counter.sock origin none rate none turns none quiet false",
     },
     Asked {
         name: "a live day, by no option",
@@ -290,7 +330,7 @@ static RUN: [Asked; 16] = [
             "2026-02-03",
             "plan.txt",
         ],
-        request: "live plan.txt line 9932 to 9933 on 2026-02-03 UTC0 pace 1 journal none office none origin none rate none turns none quiet false",
+        request: "live plan.txt line 9932 to 9933 on 2026-02-03 UTC0 pace 1 journal none office none origin none counter none origin none rate none turns none quiet false",
     },
     Asked {
         name: "a far end, by all options of a port",
@@ -378,7 +418,7 @@ static RUN: [Asked; 16] = [
             "--turns",
             "1",
         ],
-        request: "live plan.txt line 1 to 65535 on 2026-02-03 UTC0 pace 1000 journal live.journal office socket o.sock origin none rate 1000000 turns 1 quiet false",
+        request: "live plan.txt line 1 to 65535 on 2026-02-03 UTC0 pace 1000 journal live.journal office socket o.sock origin none counter none origin none rate 1000000 turns 1 quiet false",
     },
     Asked {
         name: "standard input, once",

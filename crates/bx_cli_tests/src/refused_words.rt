@@ -140,7 +140,7 @@ static MISSING: [Refused; 21] = [
 ];
 
 /// An option has a value that it cannot have.
-static VALUES: [Refused; 15] = [
+static VALUES: [Refused; 17] = [
     Refused {
         name: "port 0",
         words: &["serve", "plan.txt", "--port", "0"],
@@ -296,6 +296,46 @@ static VALUES: [Refused; 15] = [
         says: "error: invalid value 'office.example' for '--origin <ORIGIN>': not http:// or https://, a host, and a port where it has one",
     },
     Refused {
+        name: "no origin of a counter",
+        words: &[
+            "serve",
+            "plan.txt",
+            "--live",
+            "--line",
+            "1:2",
+            "--date",
+            "2026-01-02",
+            "--journal",
+            "j",
+            "--office",
+            "o.sock",
+            "--counter",
+            "c.sock",
+            "--counter-origin",
+            "calls.example",
+        ],
+        says: "error: invalid value 'calls.example' for '--counter-origin <ORIGIN>': not http:// or https://, a host, and a port where it has one",
+    },
+    Refused {
+        name: "a counter of no path",
+        words: &[
+            "serve",
+            "plan.txt",
+            "--live",
+            "--line",
+            "1:2",
+            "--date",
+            "2026-01-02",
+            "--journal",
+            "j",
+            "--office",
+            "o.sock",
+            "--counter",
+            "",
+        ],
+        says: "error: invalid value '' for '--counter <PATH>': no path is empty",
+    },
+    Refused {
         name: "a socket of no path",
         words: &["serve", "plan.txt", "--socket", ""],
         says: "error: invalid value '' for '--socket <PATH>': no path is empty",
@@ -320,7 +360,7 @@ static VALUES: [Refused; 15] = [
 ];
 
 /// Options stand beside others, or without others.
-static BESIDE: [Refused; 15] = [
+static BESIDE: [Refused; 19] = [
     Refused {
         name: "a live day at a port",
         words: &[
@@ -435,6 +475,80 @@ static BESIDE: [Refused; 15] = [
             "https://office.example",
         ],
         says: "error: '--origin <ORIGIN>' stands only beside '--office <PATH>' or '--office-port <P>'",
+    },
+    Refused {
+        name: "a counter of no office",
+        words: &[
+            "serve",
+            "plan.txt",
+            "--live",
+            "--line",
+            "1:2",
+            "--date",
+            "2026-01-02",
+            "--journal",
+            "j",
+            "--counter",
+            "c.sock",
+        ],
+        says: "error: '--counter <PATH>' stands only beside '--office <PATH>' or '--office-port <P>'",
+    },
+    Refused {
+        name: "a counter at a port of no office",
+        words: &[
+            "serve",
+            "plan.txt",
+            "--live",
+            "--line",
+            "1:2",
+            "--date",
+            "2026-01-02",
+            "--journal",
+            "j",
+            "--counter-port",
+            "9",
+        ],
+        says: "error: '--counter-port <P>' stands only beside '--office <PATH>' or '--office-port <P>'",
+    },
+    Refused {
+        name: "an origin of no counter",
+        words: &[
+            "serve",
+            "plan.txt",
+            "--live",
+            "--line",
+            "1:2",
+            "--date",
+            "2026-01-02",
+            "--journal",
+            "j",
+            "--office",
+            "o.sock",
+            "--counter-origin",
+            "https://calls.example",
+        ],
+        says: "error: '--counter-origin <ORIGIN>' stands only beside '--counter <PATH>' or '--counter-port <P>'",
+    },
+    Refused {
+        name: "a counter at a port and a socket",
+        words: &[
+            "serve",
+            "plan.txt",
+            "--live",
+            "--line",
+            "1:2",
+            "--date",
+            "2026-01-02",
+            "--journal",
+            "j",
+            "--office",
+            "o.sock",
+            "--counter",
+            "c.sock",
+            "--counter-port",
+            "9",
+        ],
+        says: "error: the argument '--counter <PATH>' cannot be used with '--counter-port <P>'",
     },
     Refused {
         name: "a rate of no office",

@@ -154,19 +154,26 @@ fn of_far_line(alloc: Global, request: &FarLineRequest<'_>) -> Text {
     )
 }
 
+/// Where an office or a counter listens, where one is wanted.
+fn door(alloc: Global, at: Option<Place<'_>>) -> Text {
+    match at {
+        Some(at) => place(alloc, at),
+        None => String::from_str(alloc, "none"),
+    }
+}
+
 fn of_live(alloc: Global, request: &LiveRequest<'_>) -> Text {
     let line = line(alloc, request.line)?;
     let hours = hours(alloc, request.hours)?;
     let journal = word(request.journal);
-    let office = match request.office {
-        Some(at) => place(alloc, at)?,
-        None => String::from_str(alloc, "none")?,
-    };
+    let office = door(alloc, request.office)?;
     let origin = word(request.origin);
+    let counter = door(alloc, request.counter)?;
+    let counter_origin = word(request.counter_origin);
     let rate = number(alloc, request.rate)?;
     let turns = number(alloc, request.turns)?;
     format!(in alloc;
-        "live {} {line} {hours} journal {journal} office {office} origin {origin} rate {rate} turns {turns} quiet {}",
+        "live {} {line} {hours} journal {journal} office {office} origin {origin} counter {counter} origin {counter_origin} rate {rate} turns {turns} quiet {}",
         request.plan, request.is_quiet
     )
 }
