@@ -15,7 +15,7 @@ _bx() {
         quote) options="--inward --date --zone --help" ;;
         chart) options="--journal --date --zone --help" ;;
         day) options="--turns --journal --records --capture --date --zone --quiet --help" ;;
-        serve) options="--port --socket --live --line --date --zone --journal --office --office-port --origin --rate --pace --turns --records --capture --quiet --help" ;;
+        serve) options="--port --socket --live --line --date --zone --journal --office --office-port --origin --counter --counter-port --counter-origin --rate --pace --turns --records --capture --quiet --help" ;;
         far) options="--port --socket --line --date --zone --pace --turns --capture --quiet --help" ;;
         audit) options="--capture --date --zone --help" ;;
         records) options="--date --zone --quiet --help" ;;
@@ -24,7 +24,7 @@ _bx() {
         help) COMPREPLY=($(compgen -W "plan check amend capacity explain quote chart day serve far audit records sold decode faults" -- "$word")); return ;;
     esac
     case $before in
-        --channels | --date | --line | --office-port | --origin | --pace | --port | --rate | --turns | --zone) return ;;
+        --channels | --counter-origin | --counter-port | --date | --line | --office-port | --origin | --pace | --port | --rate | --turns | --zone) return ;;
     esac
     case $word in
         -*) COMPREPLY=($(compgen -W "$options" -- "$word")) ;;

@@ -74,16 +74,16 @@ is_first (Cancel row) = false
 is_first _ = true
 
 -- what is there on a side: for operators all, and for customers what tells nothing of what others have booked
-abbrev pub is_open : Side → Route → Bool
-is_open Operators route = true
-is_open Customers Home = true
-is_open Customers Script = true
-is_open Customers Style = true
-is_open Customers Bookings = true
-is_open Customers Quote = true
-is_open Customers Free = true
-is_open Customers Health = true
-is_open Customers _ = false
+abbrev pub is_shown_to : Side → Route → Bool
+is_shown_to Operators route = true
+is_shown_to Customers Home = true
+is_shown_to Customers Script = true
+is_shown_to Customers Style = true
+is_shown_to Customers Bookings = true
+is_shown_to Customers Quote = true
+is_shown_to Customers Free = true
+is_shown_to Customers Health = true
+is_shown_to Customers _ = false
 
 -- the methods that HTTP has for what stands at a path (RFC 9110, section 9.3, and RFC 5789)
 abbrev pub is_known : List ℕ → Bool
@@ -146,7 +146,7 @@ pub record IsMeant (place : Place) (q : Question) : Type 0 where
 pub record IsAsked (place : Place) (q : Question) (route : Route) : Type 0 where
   pub meant : IsMeant place q
   pub there : StandsAt route (path_asked q.target)
-  pub on_side : is_open place.side route ≡ true
+  pub on_side : is_shown_to place.side route ≡ true
   pub taken : takes route q.method ≡ true
 
 -- .. and that has a body
@@ -165,8 +165,8 @@ IsGated place q (Err Doubled) = q.is_doubled ≡ true
 IsGated place q (Err OtherHost) = (q.is_doubled ≡ false) × (is_own_host place.address (host_asked q.host q.target) ≡ false)
 IsGated place q (Err OtherOrigin) = (q.is_doubled ≡ false) × (is_own_host place.address (host_asked q.host q.target) ≡ true) × (is_own_origin place.address (host_asked q.host q.target) q.origin ≡ false)
 IsGated place q (Err UnknownMethod) = IsOwn place q × (is_known q.method ≡ false)
-IsGated place q (Err NotFound) = IsMeant place q × ((route : Route) → is_open place.side route ≡ true → ¬ StandsAt route (path_asked q.target))
-IsGated place q (Err (WrongMethod route)) = IsMeant place q × StandsAt route (path_asked q.target) × (is_first route ≡ true) × (is_open place.side route ≡ true) × (has_method route q.method ≡ false)
+IsGated place q (Err NotFound) = IsMeant place q × ((route : Route) → is_shown_to place.side route ≡ true → ¬ StandsAt route (path_asked q.target))
+IsGated place q (Err (WrongMethod route)) = IsMeant place q × StandsAt route (path_asked q.target) × (is_first route ≡ true) × (is_shown_to place.side route ≡ true) × (has_method route q.method ≡ false)
 IsGated place q (Err NotCsv) = IsSent place q × (is_csv q.content ≡ false)
 IsGated place q (Err Coded) = IsSent place q × (is_csv q.content ≡ true) × (q.is_coded ≡ true)
 IsGated place q (Err NoLength) = IsSent place q × (is_csv q.content ≡ true) × (q.is_coded ≡ false) × (q.has_length ≡ false)

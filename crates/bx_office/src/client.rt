@@ -1,7 +1,7 @@
 //! A client's connection: octets that came, one request at a time, and octets to be sent.
 
 ghost use Rattle.std.specs.Prelude.{◌≡◌, ◌≤◌, true, length};
-ghost use Rattle.bx_office.specs.Sides.{is_served};
+ghost use Rattle.bx_office.specs.Sides.{keeps_side};
 ghost use Rattle.bx_office.specs.declared.client.TheConstants.{MAX_UNREAD, MAX_BODY};
 
 use crate::gate::{Place, Refusal, Route, Side};
@@ -58,7 +58,7 @@ pub struct Client {
     /// How many octets are kept for the body, from when it is let through until it is answered.
     pub(crate) kept: usize,
     pub(crate) out: BytesMut,
-    ghost served: { is_served place.side stage ≡ true },
+    ghost served: { keeps_side place.side stage ≡ true },
     ghost unread_limit: { length unread.items ≤ MAX_UNREAD },
     ghost body_limit: { length body.items ≤ kept },
     ghost kept_limit: { kept ≤ MAX_BODY },
@@ -66,7 +66,7 @@ pub struct Client {
 
 impl Client {
     ghost use Rattle.std.specs.Prelude.{◌⊎◌, ◌++◌, ◌/◌, [], max, min, drop, false, IsTrue, IfSome, IfOk};
-    ghost use Rattle.bx_office.specs.Gate.{is_open};
+    ghost use Rattle.bx_office.specs.Gate.{is_shown_to};
     ghost use Rattle.httpdate.specs.Date.{unix_secs};
     ghost use Rattle.bx_office.specs.Targets.{query_in};
     ghost use Rattle.httparse.specs.Spans.{IsRequestWithin};
@@ -124,7 +124,7 @@ impl Client {
     /// What it is at.
     pub fn stage(&self) -> Stage
         ensures value { result ≡ self.now.stage }
-        ensures served { is_served self.now.place.side result ≡ true }
+        ensures served { keeps_side self.now.place.side result ≡ true }
     {
         self.stage
     }
@@ -271,7 +271,7 @@ impl Client {
         requires within { IsRequestWithin self.old.unread.items spans.now head.now }
         requires len { head.now.len ≤ length self.old.unread.items }
         ensures taken { IfSome result (IsHeadTaken spans.now head.now self.old self.new) }
-        ensures side { IfSome result (λ verdict. IfOk verdict (λ route. is_open self.old.place.side route ≡ true)) }
+        ensures side { IfSome result (λ verdict. IfOk verdict (λ route. is_shown_to self.old.place.side route ≡ true)) }
         ensures unread { self.new.unread.items ≡ drop head.now.len self.old.unread.items }
         ensures server { self.new.server ≡ self.old.server }
         ensures place { self.new.place ≡ self.old.place }
@@ -349,7 +349,7 @@ impl Client {
 
     /// The request is let through: its body is due, where it is not too long, and no longer than is free.
     fn admit(&mut self, route: Route, free: usize)
-        requires { is_open self.old.place.side route ≡ true }
+        requires { is_shown_to self.old.place.side route ≡ true }
         ensures stage { IsUndue self.new.stage ⊎ IsBodyDue route self.old self.new }
         ensures place { self.new.place ≡ self.old.place }
         ensures kept { self.new.kept ≤ max self.old.kept free }

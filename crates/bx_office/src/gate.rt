@@ -3,7 +3,7 @@
 ghost use Rattle.std.specs.Prelude.{false, ◌≡◌, ◌≤◌, ℕ, List, true, length, IfSome, IfNone};
 ghost use Rattle.std.specs.Str.{bytes_eq};
 ghost use Rattle.bx_office.specs.Targets.{text_of};
-ghost use Rattle.bx_office.specs.Gate.{StandsAt, is_first, is_open, takes, has_method, is_known, ends_type, is_csv, is_csv_type, is_typed, has_body, question_of, IsGated};
+ghost use Rattle.bx_office.specs.Gate.{StandsAt, is_first, is_shown_to, takes, has_method, is_known, ends_type, is_csv, is_csv_type, is_typed, has_body, question_of, IsGated};
 ghost use Rattle.bx_office.specs.RowPaths.{IsRowPath};
 ghost use Rattle.bx_office.specs.declared.gate.Side.TheVariants.{Customers};
 
@@ -140,8 +140,8 @@ fn booking_at(path: &[u8]) -> Option<Route>
 
 /// What stands at a path for customers too.
 fn shared_at(path: &[u8]) -> Option<Route>
-    ensures some { IfSome result (λ route. StandsAt route path.now × (is_first route ≡ true) × (is_open Customers route ≡ true)) }
-    ensures none { IfNone result ((route : Route) → is_open Customers route ≡ true → ¬ StandsAt route path.now) }
+    ensures some { IfSome result (λ route. StandsAt route path.now × (is_first route ≡ true) × (is_shown_to Customers route ≡ true)) }
+    ensures none { IfNone result ((route : Route) → is_shown_to Customers route ≡ true → ¬ StandsAt route path.now) }
 {
     if is_word(path, "/") {
         Some(Route::Home)
@@ -165,7 +165,7 @@ fn shared_at(path: &[u8]) -> Option<Route>
 /// What stands at a path for operators alone, or the first of it.
 fn operators_at(path: &[u8]) -> Option<Route>
     ensures some { IfSome result (λ route. StandsAt route path.now × (is_first route ≡ true)) }
-    ensures none { IfNone result ((route : Route) → is_open Customers route ≡ false → ¬ StandsAt route path.now) }
+    ensures none { IfNone result ((route : Route) → is_shown_to Customers route ≡ false → ¬ StandsAt route path.now) }
 {
     if is_word(path, "/plan") {
         Some(Route::Plan)
@@ -188,8 +188,8 @@ fn operators_at(path: &[u8]) -> Option<Route>
 
 /// What stands at a path on this side, or the first of it.
 fn route_at(side: Side, path: &[u8]) -> Option<Route>
-    ensures some { IfSome result (λ route. StandsAt route path.now × (is_first route ≡ true) × (is_open side route ≡ true)) }
-    ensures none { IfNone result ((route : Route) → is_open side route ≡ true → ¬ StandsAt route path.now) }
+    ensures some { IfSome result (λ route. StandsAt route path.now × (is_first route ≡ true) × (is_shown_to side route ≡ true)) }
+    ensures none { IfNone result ((route : Route) → is_shown_to side route ≡ true → ¬ StandsAt route path.now) }
 {
     match (shared_at(path), side) {
         (Some(route), _) => Some(route),
@@ -242,7 +242,7 @@ impl Route {
     fn by(self, method: &[u8]) -> Route
         ensures there { (path : List ℕ) → StandsAt self path → StandsAt result path }
         ensures taken { has_method self method.now ≡ true → is_first self ≡ true → takes result method.now ≡ true }
-        ensures side { (side : Side) → is_open side self ≡ true → is_open side result ≡ true }
+        ensures side { (side : Side) → is_shown_to side self ≡ true → is_shown_to side result ≡ true }
     {
         match self {
             Route::Change(row) if is_word(method, "DELETE") => Route::Cancel(row),

@@ -4,7 +4,7 @@ ghost use Rattle.std.specs.Prelude.{IfOk, true, ◌≡◌, Some, None, length, A
 ghost use Rattle.std.specs.Str.{bytes_eq};
 ghost use Rattle.httparse.specs.Grammar.{RequestHead};
 ghost use Rattle.httparse.specs.Spans.{IsHeaderWithin, IsRequestWithin, IsRequestAt, header_bytes};
-ghost use Rattle.bx_office.specs.Gate.{is_open};
+ghost use Rattle.bx_office.specs.Gate.{is_shown_to};
 ghost use Rattle.bx_office.specs.Heads.{is_doubled, are_doubled, are_coded, says_length, key_asked, IsVerdict};
 ghost use Rattle.bx_office.specs.Inside.{value_at, values_at};
 
@@ -87,7 +87,7 @@ pub(crate) fn gated(
 ) -> Result<Route, Refusal>
     requires { IsRequestWithin input.now spans.now head.now }
     ensures verdict { (h : RequestHead) → IsRequestAt input.now spans.now head.now h → IsVerdict place h result }
-    ensures side { IfOk result (λ route. is_open place.side route ≡ true) }
+    ensures side { IfOk result (λ route. is_shown_to place.side route ≡ true) }
 {
     let fields = &spans[..head.headers];
     let method = head.method.of(input);

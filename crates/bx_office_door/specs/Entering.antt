@@ -1,4 +1,4 @@
--- Who is let in, and where.
+-- Private: who is let in, and where.
 use Rattle.std.specs.Prelude.{◌≡◌, ℕ, nat_lt, nat_le, Bool, All, List, ◌++◌, Some}
 use Rattle.bx_office.specs.declared.gate.Place.{Place}
 use Rattle.bx_office.specs.declared.gate.Side.{Side}
@@ -14,9 +14,9 @@ room_on Operators = 68
 room_on Customers = 48
 
 -- as many stand at the door as there are places on this side
-abbrev pub is_full : Side → ℕ → Bool
-is_full Operators count = nat_lt 64 count
-is_full Customers count = nat_le 48 count
+abbrev pub are_places_taken : Side → ℕ → Bool
+are_places_taken Operators count = nat_lt 64 count
+are_places_taken Customers count = nat_le 48 count
 
 -- whoever comes in at the counter is a customer, and whoever comes in at the office an operator
 abbrev pub IsEntranceOn : Side → Place → Door → Type 0

@@ -63,7 +63,7 @@ impl Door {
     ghost use Rattle.bx_office_door.specs.Places.{IsFirstGuest};
     ghost use Rattle.bx_office_door.specs.declared.guest.Guest.{Guest};
     ghost use Rattle.bx_office_door.specs.Doors.{answers_after, guests_of, is_early, IsAttended, IsStill};
-    ghost use Rattle.bx_office_door.specs.Entering.{IsEntrance, AreLetIn, room_on, is_full};
+    ghost use Rattle.bx_office_door.specs.Entering.{IsEntrance, AreLetIn, room_on, are_places_taken};
 
     /// A door where nobody stands yet, of a day that begins then, in nanoseconds since 1970.
     pub fn new(alloc: Global, office: Entrance, counter: Option<Entrance>, opens: u128) -> Door
@@ -174,8 +174,8 @@ impl Door {
     }
 
     /// Whether all places of this side are taken, so that others may wait there.
-    fn is_full(&self, side: Side) -> bool
-        ensures { result ≡ is_full side (vec_len self.now.guests) }
+    fn are_places_taken(&self, side: Side) -> bool
+        ensures { result ≡ are_places_taken side (vec_len self.now.guests) }
     {
         match side {
             Side::Operators => self.guests.len() > MAX_GUESTS,
@@ -191,7 +191,7 @@ impl Door {
         ensures others { IsStill self.old self.new }
     {
         for index in 0..self.guests.len() {
-            let is_full = self.is_full(self.guests[index].client().side());
+            let is_full = self.are_places_taken(self.guests[index].client().side());
             let free = self.free_at(index);
             let eve = eve_at(self.opens, now, self.is_heard, &self.figures);
             self.guests[index].attend(now, is_full, free, eve);
