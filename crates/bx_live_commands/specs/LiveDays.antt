@@ -29,11 +29,16 @@ use Rattle.bx_journal_files.specs.Resuming.{GoesOnBy, IsKeptBy, IsNotedBy}
 abbrev pub has_office : LiveRequest → Bool
 has_office request = is_some request.office && is_some request.journal
 
--- How many seconds a live day has that goes on from here: as many as were asked for, or as its accepted bookings need. Where an office is open it is so all
--- day, and the day is over with its date, or with the last of these bookings: what is up then is cleared in the seconds that go on while a call is up.
+-- the least seconds of a live day: where an office is open it is so all day
+abbrev pub least_turns : Bool → ℕ → ℕ
+least_turns true length = length
+least_turns false length = 1
+
+-- How many seconds a live day has that goes on from here: as many as were asked for, or up to the end of the last of its accepted bookings, and where an
+-- office is open to the end of its date: what is up then is cleared in the seconds that go on while a call is up.
 abbrev pub AreLiveTurns : Bool → Option ℕ → ℕ → List Entry → ℕ → Type 0
-AreLiveTurns true None length entries turns = (least : ℕ) × AreDayTurns None entries least × (turns ≡ max (least - clearing_time) length)
-AreLiveTurns is_open asked length entries turns = AreDayTurns asked entries turns
+AreLiveTurns is_open None length entries turns = (least : ℕ) × AreDayTurns None entries least × (turns ≡ max (least - clearing_time) (least_turns is_open length))
+AreLiveTurns is_open (Some asked) length entries turns = AreDayTurns (Some asked) entries turns
 
 -- a plan was read and proved, and the day's hours are those of the words
 pub record IsAtHand (request : LiveRequest) : Type 0 where

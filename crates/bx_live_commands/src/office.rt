@@ -3,7 +3,7 @@
 ghost use Rattle.std.specs.Prelude.{◌≡◌, true, IfOk, IfErr, OnErr};
 ghost use Rattle.bx_calendar.specs.DayParts.{length_of};
 ghost use Rattle.bx_day_openings.specs.OpeningRefusals.{IsUnheard};
-ghost use Rattle.bx_live_commands.specs.LiveDays.{has_office, AreLiveTurns};
+ghost use Rattle.bx_live_commands.specs.LiveDays.{has_office, least_turns, AreLiveTurns};
 ghost use Rattle.bx_live_commands.specs.LiveInside.{IsOpenAt};
 ghost use Rattle.bx_live_commands.specs.LiveRefusals.{IsNoOffice};
 ghost use Rattle.bx_live_commands.specs.OfficePlaces.{port_behind, socket_behind, IsOriginNamed, IsListeningAt, IsEntranceAt, IsEntranceWhere};
@@ -172,15 +172,23 @@ pub(crate) fn premises_of<'a, H: System + Listens>(
     }
 }
 
-/// How many seconds a live day has: as many as were asked for, or as its accepted bookings need. Where an office is open it is so all day, and the day is over
-/// with its date, or with the last of these bookings, so that the next day's exchange has the line at once: the run goes on while a call is up.
+/// The least seconds of a live day: where an office is open it is so all day.
+fn least_turns(is_open: bool, day: &Day) -> u32
+    ensures { result ≡ least_turns is_open (length_of day.now) }
+{
+    if is_open { day.length() } else { 1 }
+}
+
+/// How many seconds a live day has: as many as were asked for, or up to the end of the last of its accepted bookings, and where an office is open to the end
+/// of its date, so that the next day's exchange has the line at once: the run goes on while a call is up.
 pub(crate) fn live_turns(exchange: &Exchange, day: &Day, asked: Option<u32>, is_open: bool) -> u32
     ensures { AreLiveTurns is_open asked (length_of day.now) exchange.now.entries result }
 {
     let turns = day_turns(exchange, asked);
-    if is_open && asked.is_none() {
-        turns.saturating_sub(AFTER_THE_LAST).max(day.length())
-    } else {
-        turns
+    if asked.is_some() {
+        return turns;
     }
+    turns
+        .saturating_sub(AFTER_THE_LAST)
+        .max(least_turns(is_open, day))
 }

@@ -118,7 +118,7 @@ const SCRIPT: &str =
     "The file of the far end's script, or - for standard input: CSV under the header number,policy,seconds[,channel]";
 
 const TURNS: &str =
-    "Seconds of the day to run, 1 to 300000 [default: until 38 s after the end of the last accepted booking]";
+    "Seconds of the day to run, 1 to 300000 [default: until 38 s after the end of the last accepted booking; of a live day until that end]";
 
 const FAR_TURNS: &str =
     "Seconds of the day to run, 1 to 300000 [default: until 38 s after the end of the day]";
