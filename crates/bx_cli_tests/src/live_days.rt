@@ -188,11 +188,11 @@ fn days_that_have_gone_by(rt: HostRuntime) -> Result<(), Fail> {
     assert_eq!(rt; first_wrong(&rt, &folder, &DAYS)?, None);
     assert_eq!(rt; first_wrong(&rt, &folder, &WRONG)?, None);
     assert!(rt;
-        holds(&rt, &folder, "@day.journal", "", 98)?,
+        holds(&rt, &folder, "@day.journal", "", 60)?,
         "each second is on record"
     );
     assert!(rt;
-        holds(&rt, &folder, "@short.journal", "", 98)?,
+        holds(&rt, &folder, "@short.journal", "", 60)?,
         "the day went on"
     );
     fs::remove_dir_all(&rt, folder.as_str())?;
@@ -220,7 +220,7 @@ fn torn_journals(rt: HostRuntime) -> Result<(), Fail> {
         does(&rt, &folder, words, (0, MISSED, ""))?,
         "torn in its head"
     );
-    assert!(rt; holds(&rt, &folder, "@torn.journal", "", 98)?, "it begins");
+    assert!(rt; holds(&rt, &folder, "@torn.journal", "", 60)?, "it begins");
     fs::remove_dir_all(&rt, folder.as_str())?;
     Ok(())
 }

@@ -462,13 +462,13 @@ fn days_with_sales(rt: HostRuntime) -> Result<(), Fail> {
     let path = placed(rt.alloc(), "@front.journal", &folder)?;
     let octets = fs::read(&rt, path.as_str())?;
     assert!(rt;
-        ends_with(&octets, PREFIX.as_bytes(), 127),
+        ends_with(&octets, PREFIX.as_bytes(), 89),
         "each second up to the last"
     );
     let path = placed(rt.alloc(), "@same.journal", &folder)?;
     let octets = fs::read(&rt, path.as_str())?;
     assert!(rt;
-        ends_with(&octets, SAME.as_bytes(), 97),
+        ends_with(&octets, SAME.as_bytes(), 59),
         "each second up to the last, of a plan that is not first fit too"
     );
     fs::remove_dir_all(&rt, folder.as_str())?;

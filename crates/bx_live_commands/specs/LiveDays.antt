@@ -1,5 +1,5 @@
 -- A live day of a plan, and what is told of it.
-use Rattle.std.specs.Prelude.{◌≡◌, ◌&&◌, ◌-◌, ℕ, max, Bool, true, false, List, Option, None, is_some, unwrap_or}
+use Rattle.std.specs.Prelude.{◌≡◌, ◌&&◌, ◌-◌, ℕ, max, Bool, true, false, List, Option, None, Some, is_some, unwrap_or}
 use Rattle.std.specs.Io.KnownBytes.{Appends}
 use Rattle.bx_calendar.specs.DayParts.{length_of}
 use Rattle.bx_calls.specs.Timers.{clearing_time}
